@@ -10,15 +10,15 @@ watches() {
     done
     return 1
 }
-# Runs such a load. The first Ctrl-C closes the pipe whose other end is the program's descriptor 3, so that the load ends with
-# all its output; a second one ends the program at once.
+# Runs such a load. The first Ctrl-C closes the pipe whose other end is the program's descriptor 3, as CURLPOOL_INTERRUPT says,
+# so that the load ends with all its output; a second one ends the program at once.
 load() {
     room=$(mktemp -d)
     mkfifo "$room/pipe"
     exec 4<>"$room/pipe" 3<"$room/pipe" 5>"$room/pipe" 6<&0
     exec 4>&-
     rm -r "$room"
-    (trap '' INT && exec "$program" "$@" <&6 5>&- 6<&-) &
+    (trap '' INT && CURLPOOL_INTERRUPT=3 exec "$program" "$@" <&6 5>&- 6<&-) &
     child=$!
     exec 3<&-
     trap 'exec 5>&-; trap "kill $child" INT' INT

@@ -106,11 +106,11 @@ def load_by_launcher(words):
 
 
 def load_with_pipe(words):
-    """The program alone: descriptor 3 is a pipe whose other end is closed then."""
+    """The program alone: the descriptor that CURLPOOL_INTERRUPT names is a pipe whose other end is closed then."""
     ours, theirs = os.pipe()
     try:
-        with running([curlpool(), *words], stdin=subprocess.DEVNULL, pass_fds=(3,),
-                     preexec_fn=lambda: os.dup2(ours, 3)) as run:
+        with running([curlpool(), *words], stdin=subprocess.DEVNULL, pass_fds=(ours,),
+                     env={**os.environ, "CURLPOOL_INTERRUPT": str(ours)}) as run:
             check_interrupted(run, lambda: os.close(theirs))
     finally:
         os.close(ours)

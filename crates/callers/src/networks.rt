@@ -9,7 +9,7 @@ use conn_key::{CountedMemory, read_target};
 use exchange::{Clock, Done, Job, Prepared};
 use exchange_memory::{MemoryDial, MemoryWire};
 use persistence::Method;
-use run_loop::{Draw, Jobs, Results, RunEnd, Span, Timer};
+use run_loop::{Draw, Jobs, MicroClock, Results, RunEnd, Span, Timer};
 use socket::{Addresses, PolledDial, WaitingDial};
 
 #[test]
@@ -88,12 +88,22 @@ impl Clock for Still {
     }
 }
 
+impl MicroClock for Still {
+    ghost use Rattle.std.specs.Prelude.{⊤};
+
+    ghost tells_micros = { λ clock moment. ⊤ };
+
+    fn moment(&self) -> u64 {
+        0
+    }
+}
+
 impl Timer for Still {
     ghost use Rattle.std.specs.Prelude.{⊤};
 
     ghost may_stop = { λ still job. ⊤ };
 
-    fn stops(&self, _number: u64, _began: u64) -> bool {
+    fn stops(&self, _number: u64, _began: u64, _now: u64) -> bool {
         false
     }
 

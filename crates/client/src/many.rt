@@ -4,6 +4,7 @@ ghost use Rattle.exchange.specs.Dialling.{failed_turns};
 ghost use Rattle.std.specs.Prelude.{◌≡◌, ℕ, [], IfOk, OnErr};
 ghost use Rattle.cache.specs.PoolCalls.{home_of, DidToPool};
 ghost use Rattle.exchange.specs.Worlds.{world_of};
+ghost use Rattle.run_loop.specs.Moments.{TakesTimed};
 ghost use Rattle.run_loop.specs.Going.{rules_of, point, RunsToEnd, IfComplete, IfStopped, TurnsAt};
 
 use cache::Pool;
@@ -40,7 +41,8 @@ pub fn fetch_many<
     timer: &T,
 ) -> io::Result<RunEnd>
     ensures ends { IfOk result (λ end. RunsToEnd end (rules_of DidToPool (world_of W.untouched
-        W.happened (T.tells timer.now)) (T.may_stop timer.now) (J.job_at jobs.old) R.took)
+        W.happened (T.tells timer.now)) (T.may_stop timer.now) (J.job_at jobs.old)
+        (TakesTimed (T.tells_micros timer.now) R.took))
         (point pool.old (J.drawn jobs.old) [] results.old)
         (point pool.new (J.drawn jobs.new) [] results.new)) }
     ensures home { home_of pool.new ≡ home_of pool.old }

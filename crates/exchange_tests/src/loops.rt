@@ -9,7 +9,7 @@ use exchange::{Clock, Done, Job, Prepared, Ready};
 use exchange_memory::{Halt, MemoryDial, MemoryWire};
 use futures::task::{Doorbell, Solo};
 use persistence::Method;
-use run_loop::{Draw, Jobs, Results, RunEnd, RunLoop, Span, Timer};
+use run_loop::{Draw, Jobs, MicroClock, Results, RunEnd, RunLoop, Span, Timer};
 use std::alloc::{AllocGlobal, Global};
 use std::fmt::Write;
 use std::process::Abort;
@@ -150,12 +150,22 @@ impl Clock for Looks {
     }
 }
 
+impl MicroClock for Looks {
+    ghost use Rattle.std.specs.Prelude.{⊤};
+
+    ghost tells_micros = { λ clock moment. ⊤ };
+
+    fn moment(&self) -> u64 {
+        self.micros()
+    }
+}
+
 impl Timer for Looks {
     ghost use Rattle.std.specs.Prelude.{⊤};
 
     ghost may_stop = { λ looks job. ⊤ };
 
-    fn stops(&self, _number: u64, _began: u64) -> bool {
+    fn stops(&self, _number: u64, _began: u64, _now: u64) -> bool {
         false
     }
 
@@ -190,16 +200,23 @@ impl Clock for Limited {
     }
 }
 
+impl MicroClock for Limited {
+    ghost use Rattle.std.specs.Prelude.{⊤};
+
+    ghost tells_micros = { λ clock moment. ⊤ };
+
+    fn moment(&self) -> u64 {
+        self.micros()
+    }
+}
+
 impl Timer for Limited {
     ghost use Rattle.std.specs.Prelude.{◌≡◌};
 
     ghost may_stop = { λ limited job. job ≡ limited.number };
 
-    fn stops(&self, number: u64, began: u64) -> bool {
-        if number != self.number {
-            return false;
-        }
-        self.micros().saturating_sub(began) >= self.limit
+    fn stops(&self, number: u64, began: u64, now: u64) -> bool {
+        number == self.number && now.saturating_sub(began) >= self.limit
     }
 
     fn is_over(&self) -> bool {

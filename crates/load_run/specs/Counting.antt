@@ -54,7 +54,7 @@ has_not_begun done span = false
 pub record CountsJobAt (site : ℕ) (done : Done) (outcome : Outcome) (ended latency : ℕ) (old new : JobFigures) : Type 0 where
   pub all : new.all ≡ counted done outcome latency old.all
   pub sites : new.hosts ≡ counted_at site done outcome latency old.hosts
-  pub intervals : CountsInIntervals outcome ended latency old.intervals new.intervals
+  pub intervals : CountsInIntervals done outcome ended latency old.intervals new.intervals
 
 -- the job of that number is counted by its site, outcome and latency, and by when it ended after the warm-up
 pub record Counts (number : ℕ) (done : Done) (span : Span) (old new : CountedResults) : Type 0 where

@@ -4,4 +4,5 @@ pub mod Dials
 pub mod Pace
 pub mod UrlJobs
 pub mod Counting
+pub mod Stopping
 pub mod ManyLoads

@@ -1,5 +1,5 @@
 -- What a load with many jobs at once leaves.
-use Rattle.std.specs.Prelude.{◌≡◌, ℕ, ◌-◌, ◌<◌, List, [], length, map, min, reverse, Option, Some, None, true, ⊤}
+use Rattle.std.specs.Prelude.{◌≡◌, ℕ, ◌-◌, ◌<◌, List, [], length, map, min, reverse, Option, Some, None, true, false}
 use Rattle.std.specs.List.{All}
 use Rattle.std.specs.Global.{Vec}
 use Rattle.conn_log.specs.declared.entry.Entry.{Entry}
@@ -9,6 +9,8 @@ use Rattle.exchange.specs.Worlds.{World}
 use Rattle.shared_cache.specs.Names.{CacheNames, IsPlanFor}
 use Rattle.shared_cache.specs.Gathering.{IsGathered}
 use Rattle.run_loop.specs.declared.run_end.RunEnd.{RunEnd}
+use Rattle.run_loop.specs.Going.{is_fault}
+use Rattle.run_loop.specs.Moments.{TakesTimed}
 use Rattle.driver.specs.declared.fault.DriverFault.TheVariants.{BadWorkers}
 use Rattle.driver.specs.declared.many.worker.Finished.{Finished}
 use Rattle.driver.specs.Faults.{IsWorkerFault}
@@ -64,13 +66,15 @@ pub record Collects {D : Type 0} (old new : Collected) (workers : List (Finished
   pub unbegun : new.unbegun ≡ with_unbegun old.unbegun (reverse (map (results_in {D = D}) workers))
   pub passes : new.passes.items ≡ reverse (map (pass_in {D = D}) workers)
 
--- So many jobs were carried out by so many threads, in a run over the cache of those names which may stop each. These are
--- its passes, what all threads have counted, and how many jobs were stopped as they were to begin.
-pub record HasCarriedOut {W : Type 0} (world : World W) (names : CacheNames) (job_at : ℕ → Job) (jobs workers hosts : ℕ) (counting : Counting) (collected : Collected) (drawn : ℕ) : Type 0 where
+-- So many jobs were carried out by so many threads, in a run over the cache of those names that no fault ended. It may stop
+-- these jobs, and its clock told these moments. These are its passes, what all threads have counted, and how many jobs were
+-- stopped as they were to begin.
+pub record HasCarriedOut {W : Type 0} (world : World W) (may_stop told : ℕ → Type 0) (names : CacheNames) (job_at : ℕ → Job) (jobs workers hosts : ℕ) (counting : Counting) (collected : Collected) (drawn : ℕ) : Type 0 where
   pub begun : List (CountedResults × ℕ)
   pub back : List (CountedResults × ℕ × Accounts)
   pub end : RunEnd
-  pub ran : IsManyRun world (λ number. ⊤) names job_at Takes jobs begun back end drawn
+  pub ran : IsManyRun world may_stop names job_at (TakesTimed told Takes) jobs begun back end drawn
+  pub sound : is_fault end ≡ false
   pub threads : length begun ≡ workers
   pub uncounted : All (λ (own : CountedResults × ℕ). IsUncounted hosts counting own.0) begun
   pub figures_are : AddsAll (no_figures hosts) (reverse (map results_of back)) collected.figures
@@ -78,28 +82,30 @@ pub record HasCarriedOut {W : Type 0} (world : World W) (names : CacheNames) (jo
   pub passes_are : collected.passes.items ≡ reverse (map pass_of back)
 
 -- so the jobs of the plan's URLs were, of which there is one at least, in turn
-pub record HasRun {W : Type 0} (world : World W) (names : CacheNames) (plan : ManyPlan) (collected : Collected) (drawn : ℕ) : Type 0 where
+pub record HasRun {W : Type 0} (world : World W) (may_stop told : ℕ → Type 0) (names : CacheNames) (plan : ManyPlan) (collected : Collected) (drawn : ℕ) : Type 0 where
   pub otherwise : Job
   pub some : 0 < length plan.urls.now
-  pub carried_out : HasCarriedOut world names (in_turn plan.urls.now otherwise) (jobs_of plan.jobs) (workers_of plan) plan.hosts (counting_of plan) collected drawn
+  pub carried_out : HasCarriedOut world may_stop told names (in_turn plan.urls.now otherwise) (jobs_of plan.jobs) (workers_of plan) plan.hosts (counting_of plan) collected drawn
 
 -- The jobs are those of such a run, and so are the figures. The logs are cut from those of the cache, and the account is its
--- own at its end, with the passes of the run. By when the run ended, so long it took, and so many jobs were missed.
-pub record IsLoadedManyBy {W : Type 0} (world : World W) (names : CacheNames) (plan : ManyPlan) (loaded : LoadedMany) : Type 0 where
+-- own at its end, with the passes of the run. By when the run ended, which its clock told, so long it took, and so many jobs
+-- were missed.
+pub record IsLoadedManyBy {W : Type 0} (world : World W) (may_stop told : ℕ → Type 0) (names : CacheNames) (plan : ManyPlan) (loaded : LoadedMany) : Type 0 where
   pub collected : Collected
-  pub ran : HasRun world names plan collected loaded.drawn
+  pub ran : HasRun world may_stop told names plan collected loaded.drawn
   pub figures_are : loaded.figures ≡ collected.figures
   pub ended : ℕ
+  pub ended_told : told ended
   pub elapsed_is : loaded.elapsed ≡ ended - warm_of plan.times
   pub missed_is : loaded.missed ≡ missed_of plan.times (jobs_of plan.jobs) ended (loaded.drawn - collected.unbegun)
   pub logs_are : AreLogsOf W names loaded.logs.items
   pub gathered_is : IsGathered names collected.passes.items loaded.gathered
 
 -- and that cache was made under the plan's limits, for so many hosts
-pub record IsLoadedMany {W : Type 0} (world : World W) (plan : ManyPlan) (loaded : LoadedMany) : Type 0 where
+pub record IsLoadedMany {W : Type 0} (world : World W) (may_stop told : ℕ → Type 0) (plan : ManyPlan) (loaded : LoadedMany) : Type 0 where
   pub names : CacheNames
   pub planned : IsPlanFor plan.limits plan.hosts names
-  pub by_them : IsLoadedManyBy world names plan loaded
+  pub by_them : IsLoadedManyBy world may_stop told names plan loaded
 
 -- why a run with so many tools and places did not begin or has no account: bad tools, only where they are; else memory or a
 -- poller

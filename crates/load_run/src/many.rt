@@ -2,6 +2,7 @@
 
 mod account;
 mod counted_results;
+mod load_clock;
 mod load_timer;
 mod loading;
 mod pace;

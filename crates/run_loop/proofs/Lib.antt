@@ -5,3 +5,4 @@ pub mod Places
 pub mod Stories
 pub mod Going
 pub mod RunningOn
+pub mod Timed

@@ -3,6 +3,7 @@ pub mod Endings
 pub mod Running
 pub mod Drawing
 pub mod Taking
+pub mod Moments
 pub mod Going
 pub mod Room
 pub mod Steps

@@ -1,6 +1,8 @@
 //! When the jobs at the places of a loop began.
 
-ghost use Rattle.std.specs.Prelude.{◌≡◌, false};
+ghost use Rattle.std.specs.Prelude.{◌≡◌, None, Some, false, length, replicate, IfOk};
+ghost use Rattle.std.specs.Prelude.{slice_index_or, slice_set};
+ghost use Rattle.run_loop.specs.Moments.{AreTold, IsTimed};
 
 use crate::results::Span;
 use crate::timer::Timer;
@@ -10,34 +12,50 @@ use std::alloc::{AllocError, Global};
 /// By place, the moment at which the last job began there, in microseconds.
 #[derive(Drop)]
 pub(crate) struct Begins {
-    moments: Vec<u64>,
+    moments: Vec<Option<u64>>,
 }
 
 impl Begins {
-    /// For so many places.
+    /// For `places` places, at which no job has begun.
     ///
     /// # Errors
     ///
     /// There is no memory for them.
-    pub(crate) fn new(alloc: Global, places: usize) -> Result<Begins, AllocError> {
-        let mut moments = Vec::with_capacity(alloc, places)?;
-        moments.resize(places, 0)?;
+    pub(crate) fn new(alloc: Global, places: usize) -> Result<Begins, AllocError>
+        ensures { IfOk result (λ made. made.moments.items ≡ replicate places None) }
+    {
+        let moments = vec![in alloc; None; places]?;
         Ok(Begins { moments })
     }
 
-    /// The job at that place begins at that moment.
-    pub(crate) fn begin(&mut self, place: usize, now: u64) {
+    /// Forgets all moments.
+    pub(crate) fn forget(&mut self)
+        ensures { self.new.moments.items ≡ replicate (length self.old.moments.items) None }
+    {
+        self.moments.as_mut_slice().fill(None);
+    }
+
+    /// Notes that a job begins at that place, at that moment.
+    pub(crate) fn begin(&mut self, place: usize, now: u64)
+        ensures { self.new.moments.items ≡ slice_set self.old.moments.items place (Some now) }
+    {
         if let Some(moment) = self.moments.get_mut(place) {
-            *moment = now;
+            *moment = Some(now);
         }
     }
 
-    /// The moment at which the last job began at that place.
-    pub(crate) fn began(&self, place: usize) -> u64 {
-        self.moments.get(place).copied().unwrap_or(0)
+    /// Returns the moment at which the last job began at that place.
+    pub(crate) fn began(&self, place: usize) -> Option<u64>
+        ensures { result ≡ slice_index_or self.now.moments.items place None }
+    {
+        match self.moments.get(place) {
+            Some(moment) => *moment,
+            None => None,
+        }
     }
 
-    /// The span of the job at that place, which has ended now.
+    /// Returns the span of the job at that place, which ends now.
+    #[tactic(auto, using(crate::proofs::Timed::told_at))]
     pub(crate) fn span<T: Timer>(
         &self,
         place: usize,
@@ -46,23 +64,41 @@ impl Begins {
         retried: bool,
         timer: &T,
     ) -> Span
-        ensures { result.retried ≡ retried }
+        requires told { AreTold (T.tells_micros timer.now) self.now.moments.items }
+        ensures timed { IsTimed (T.tells_micros timer.now) result }
+        ensures retried { result.retried ≡ retried }
     {
+        let now = timer.moment();
+        let began = match self.began(place) {
+            Some(began) => began,
+            None => now,
+        };
+        let ended = now.max(began);
         Span {
-            began: self.began(place),
-            ended: timer.micros().max(phases.last().unwrap_or(0)),
-            phases,
+            began,
+            ended,
+            phases: within(phases, ended),
             reason,
             retried,
         }
     }
 }
 
-/// Of a job that ended as it began: now.
+// These moments, none of which is after `end` then.
+fn within(phases: Phases, end: u64) -> Phases {
+    Phases {
+        leased: phases.leased.map(|moment| moment.min(end)),
+        open: phases.open.map(|moment| moment.min(end)),
+        first_byte: phases.first_byte.map(|moment| moment.min(end)),
+    }
+}
+
+/// Returns the span of a job that ends as it begins: now.
 pub(crate) fn no_span<T: Timer>(timer: &T) -> Span
-    ensures { result.retried ≡ false }
+    ensures timed { IsTimed (T.tells_micros timer.now) result }
+    ensures retried { result.retried ≡ false }
 {
-    let now = timer.micros();
+    let now = timer.moment();
     Span {
         began: now,
         ended: now,

@@ -9,9 +9,11 @@ mod run_end;
 mod run_loop;
 mod spares;
 mod timer;
+mod until;
 
 pub use jobs::{Draw, Jobs};
 pub use results::{Results, Span};
 pub use run_end::RunEnd;
 pub use run_loop::RunLoop;
-pub use timer::Timer;
+pub use timer::{MicroClock, Timer};
+pub use until::Until;

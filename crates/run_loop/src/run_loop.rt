@@ -1,12 +1,15 @@
 //! The loop of a run over one cache: any number of jobs at once, each carried out by a transfer.
 
 ghost use Rattle.std.specs.Prelude.{◌≡◌, ◌≤◌, ◌<◌, ℕ, List, [], sum_by, IfOk, true};
+ghost use Rattle.std.specs.Prelude.{None, replicate};
 ghost use Rattle.exchange.specs.Dialling.{CountsTurn, failed_turns};
 ghost use Rattle.exchange.specs.Worlds.{world_of};
 ghost use Rattle.exchange.specs.Slabs.{AreKept, one_if_some};
 ghost use Rattle.run_loop.specs.Going.{rules_of, rules_at, point, RunsOn, RunsOnWith, RunsToEnd};
 ghost use Rattle.run_loop.specs.Going.{MayClose, IfStopped, IfComplete, IfIncomplete, TurnsAt};
+ghost use Rattle.run_loop.specs.Moments.{AreTold, TakesTimed};
 ghost use Rattle.run_loop.specs.Steps.{JoinsIf, IfNever};
+ghost use Rattle.run_loop.specs.declared.until.Until.TheVariants.{Ended as EndedAll};
 
 use crate::begins::{Begins, no_span};
 use crate::jobs::{Draw, Jobs};
@@ -15,6 +18,7 @@ use crate::results::Results;
 use crate::run_end::RunEnd;
 use crate::spares::Spares;
 use crate::timer::Timer;
+use crate::until::Until;
 use cache_trait::Cache;
 use exchange::{Dial, Done, Ended, Fault, Slab, Turned, Wire};
 use futures::task::{Context, Poll, Solo};
@@ -53,10 +57,14 @@ pub struct RunLoop<W: Wire> {
     late: LateGrants,
     // How many rounds there were since the last turn of the dial, beside the first one.
     rounds: u32,
+    // The moment before the last turn of the dial: what had arrived by then is known.
+    turned: u64,
+    // A job has ended, or the bell has rung, since the last call.
+    has_news: bool,
     ghost few: { sum_by one_if_some slab.slots ≤ places },
 }
 
-// Polls what is due in a slab, in one round; each job that has ended has its result.
+// Polls the transfers of a slab that are due, in one round. Each job that ends has its result.
 fn poll_round<W: Wire, C: Cache<W>, D: Dial<W>, J: Jobs, R: Results, T: Timer>(
     slab: &mut Slab<W>,
     spares: &mut Spares,
@@ -70,11 +78,13 @@ fn poll_round<W: Wire, C: Cache<W>, D: Dial<W>, J: Jobs, R: Results, T: Timer>(
 )
     requires kept { AreKept (world_of W.untouched W.happened (T.tells timer.now))
         (C.home cache.old) slab.old.slots }
+    requires told { AreTold (T.tells_micros timer.now) begins.now.moments.items }
     ensures stays { C.home cache.new ≡ C.home cache.old }
     ensures kept { AreKept (world_of W.untouched W.happened (T.tells timer.now))
         (C.home cache.new) slab.new.slots }
     ensures goes { RunsOn (rules_of C.did (world_of W.untouched W.happened (T.tells timer.now))
-        (T.may_stop timer.now) (J.job_at _jobs.now) R.took)
+        (T.may_stop timer.now) (J.job_at _jobs.now)
+        (TakesTimed (T.tells_micros timer.now) R.took))
         (point cache.old (J.drawn _jobs.now) slab.old.slots results.old)
         (point cache.new (J.drawn _jobs.now) slab.new.slots results.new) }
     ensures fewer { sum_by one_if_some slab.new.slots
@@ -102,7 +112,8 @@ impl<W: Wire> RunLoop<W> {
     ///
     /// There is no memory for the places.
     pub fn new(alloc: Global, places: usize, task: Solo) -> Result<RunLoop<W>, AllocError>
-        ensures { IfOk result (λ made. made.slab.slots ≡ []) }
+        ensures empty { IfOk result (λ made. made.slab.slots ≡ []) }
+        ensures fresh { IfOk result (λ made. made.begins.moments.items ≡ replicate places None) }
     {
         let spares = Spares::new(alloc, places)?;
         let begins = Begins::new(alloc, places)?;
@@ -116,6 +127,8 @@ impl<W: Wire> RunLoop<W> {
             heard: 0,
             late: LateGrants::new(),
             rounds: 0,
+            turned: 0,
+            has_news: false,
         })
     }
 
@@ -136,7 +149,8 @@ impl<W: Wire> RunLoop<W> {
         requires { self.slab.slots ≡ [] }
         ensures stays { C.home cache.new ≡ C.home cache.old }
         ensures ends { RunsToEnd result (rules_of C.did (world_of W.untouched W.happened (T.tells
-            timer.now)) (T.may_stop timer.now) (J.job_at jobs.old) R.took)
+            timer.now)) (T.may_stop timer.now) (J.job_at jobs.old)
+            (TakesTimed (T.tells_micros timer.now) R.took))
             (point cache.old (J.drawn jobs.old) [] results.old)
             (point cache.new (J.drawn jobs.new) [] results.new) }
         ensures fixed { J.kept jobs.new ≡ J.kept jobs.old }
@@ -146,7 +160,9 @@ impl<W: Wire> RunLoop<W> {
         ensures turns { TurnsAt result (failed_turns D.shown dial.old)
             (failed_turns D.shown dial.new) }
     {
-        self.finish(rt, cache, dial, jobs, results, timer)
+        let mut run = self;
+        run.begins.forget();
+        run.finish(rt, cache, dial, jobs, results, timer)
     }
 
     /// Carries on with what is under way, and with the jobs that it draws, as `run` does, and ends
@@ -164,9 +180,11 @@ impl<W: Wire> RunLoop<W> {
     ) -> RunEnd
         requires kept { AreKept (world_of W.untouched W.happened (T.tells timer.now))
             (C.home cache.old) self.slab.slots }
+        requires told { AreTold (T.tells_micros timer.now) self.begins.moments.items }
         ensures stays { C.home cache.new ≡ C.home cache.old }
         ensures ends { RunsToEnd result (rules_of C.did (world_of W.untouched W.happened (T.tells
-            timer.now)) (T.may_stop timer.now) (J.job_at jobs.old) R.took)
+            timer.now)) (T.may_stop timer.now) (J.job_at jobs.old)
+            (TakesTimed (T.tells_micros timer.now) R.took))
             (point cache.old (J.drawn jobs.old) self.slab.slots results.old)
             (point cache.new (J.drawn jobs.new) [] results.new) }
         ensures fixed { J.kept jobs.new ≡ J.kept jobs.old }
@@ -177,7 +195,7 @@ impl<W: Wire> RunLoop<W> {
             (failed_turns D.shown dial.new) }
     {
         let mut run = self;
-        let end = run.run_on(true, rt, cache, dial, jobs, results, timer);
+        let end = run.run_on(Until::Ended, rt, cache, dial, jobs, results, timer);
         run.drop_early(end, cache, jobs, results, timer);
         run.close_all(end, cache, dial, jobs, results, timer);
         let _ = timer.ring(run.heard);
@@ -200,18 +218,22 @@ impl<W: Wire> RunLoop<W> {
             heard: _,
             late: _,
             rounds: _,
+            turned: _,
+            has_news: _,
         } = self;
         slab.destroy_empty();
     }
 
     /// Carries on with what is under way, and with the jobs that it draws, until no job is left, or
-    /// the timer or a fault ends the run; `to_end` waits until nothing is under way either. What is
-    /// under way stays so: another call carries on with it, beside other jobs if need be.
+    /// the timer or a fault ends the run; `until` is what it waits for once no job is left. What is
+    /// under way stays so: another call carries on with it, beside other jobs if need be. What has
+    /// arrived since the last call is read before the timer stops a job.
     ///
-    /// Asked of the caller: each transfer in it stands as the wires and the clock tell.
+    /// Requires: each transfer in it is in a state that the wires and the clock can have led to, and
+    /// the jobs began at moments that the timer told.
     pub fn run_on<C: Cache<W>, D: Dial<W>, J: Jobs, R: Results, T: Timer, H: Wait>(
         &mut self,
-        to_end: bool,
+        until: Until,
         rt: &H,
         cache: &mut C,
         dial: &mut D,
@@ -221,51 +243,72 @@ impl<W: Wire> RunLoop<W> {
     ) -> RunEnd
         requires kept { AreKept (world_of W.untouched W.happened (T.tells timer.now))
             (C.home cache.old) self.old.slab.slots }
+        requires told { AreTold (T.tells_micros timer.now) self.old.begins.moments.items }
         ensures stays { C.home cache.new ≡ C.home cache.old }
         ensures kept { AreKept (world_of W.untouched W.happened (T.tells timer.now))
             (C.home cache.new) self.new.slab.slots }
+        ensures told { AreTold (T.tells_micros timer.now) self.new.begins.moments.items }
         ensures goes { RunsOn (rules_of C.did (world_of W.untouched W.happened (T.tells
-            timer.now)) (T.may_stop timer.now) (J.job_at jobs.old) R.took)
+            timer.now)) (T.may_stop timer.now) (J.job_at jobs.old)
+            (TakesTimed (T.tells_micros timer.now) R.took))
             (point cache.old (J.drawn jobs.old) self.old.slab.slots results.old)
             (point cache.new (J.drawn jobs.new) self.new.slab.slots results.new) }
         ensures jobs { J.job_at jobs.new ≡ J.job_at jobs.old }
         ensures fixed { J.kept jobs.new ≡ J.kept jobs.old }
         ensures complete { IfComplete result (J.is_over jobs.new) }
-        ensures empty { to_end ≡ true → IfComplete result
+        ensures empty { until ≡ EndedAll → IfComplete result
             (sum_by one_if_some self.new.slab.slots ≡ 0) }
         ensures stopped { IfStopped result ((number : ℕ) → T.may_stop timer.now number) }
         ensures turns { TurnsAt result (failed_turns D.shown dial.old)
             (failed_turns D.shown dial.new) }
     {
+        self.set_out();
+        let mut next = Next::Free;
         for _ in rt.forever() {
+            if let Next::Never = next {
+                if self.may_end(until) {
+                    return RunEnd::Complete;
+                }
+            }
             if timer.is_over() {
                 return RunEnd::Stopped;
             }
             if timer.is_broken_off() {
                 return RunEnd::BrokenOff;
             }
-            let next = self.take_round(cache, dial, jobs, results, timer);
-            if let Next::Never = next {
-                if self.may_end(to_end) {
-                    return RunEnd::Complete;
-                }
-            }
             if let Turned::Fault = self.rest(dial, timer, next) {
                 return RunEnd::TurnFailed;
             }
+            next = self.take_round(cache, dial, jobs, results, timer);
         }
         unreachable!()
     }
 
-    // Whether a run that has no job left may end: if need be, once nothing is under way.
-    fn may_end(&self, to_end: bool) -> bool
-        ensures { result ≡ true → to_end ≡ true → sum_by one_if_some self.now.slab.slots ≡ 0 }
+    // Notes that a call begins. If transfers are under way, it begins with a turn of the dial.
+    fn set_out(&mut self)
+        ensures slots { self.new.slab.slots ≡ self.old.slab.slots }
+        ensures begins { self.new.begins ≡ self.old.begins }
     {
-        !to_end || self.slab.is_empty()
+        self.has_news = false;
+        if !self.slab.is_empty() {
+            self.rounds = MORE_ROUNDS;
+        }
     }
 
-    // A round: stops jobs that are to be stopped, draws jobs and begins them, and polls what is
-    // due. When the next job may begin.
+    // True if a call that has no job left to draw may return.
+    fn may_end(&self, until: Until) -> bool
+        ensures { result ≡ true → until ≡ EndedAll
+            → sum_by one_if_some self.now.slab.slots ≡ 0 }
+    {
+        match until {
+            Until::Begun => true,
+            Until::Freed => self.has_news,
+            Until::Ended => self.slab.is_empty(),
+        }
+    }
+
+    // A round: polls the transfers that are due, stops jobs that are to be stopped, draws jobs and
+    // begins them. Returns when the next job may begin.
     fn take_round<C: Cache<W>, D: Dial<W>, J: Jobs, R: Results, T: Timer>(
         &mut self,
         cache: &mut C,
@@ -276,11 +319,14 @@ impl<W: Wire> RunLoop<W> {
     ) -> Next
         requires kept { AreKept (world_of W.untouched W.happened (T.tells timer.now))
             (C.home cache.old) self.old.slab.slots }
+        requires told { AreTold (T.tells_micros timer.now) self.old.begins.moments.items }
         ensures stays { C.home cache.new ≡ C.home cache.old }
         ensures kept { AreKept (world_of W.untouched W.happened (T.tells timer.now))
             (C.home cache.new) self.new.slab.slots }
+        ensures told { AreTold (T.tells_micros timer.now) self.new.begins.moments.items }
         ensures goes { RunsOn (rules_of C.did (world_of W.untouched W.happened (T.tells
-            timer.now)) (T.may_stop timer.now) (J.job_at jobs.old) R.took)
+            timer.now)) (T.may_stop timer.now) (J.job_at jobs.old)
+            (TakesTimed (T.tells_micros timer.now) R.took))
             (point cache.old (J.drawn jobs.old) self.old.slab.slots results.old)
             (point cache.new (J.drawn jobs.new) self.new.slab.slots results.new) }
         ensures jobs { J.job_at jobs.new ≡ J.job_at jobs.old }
@@ -288,10 +334,9 @@ impl<W: Wire> RunLoop<W> {
         ensures over { IfNever result (J.is_over jobs.new) }
         ensures turns { failed_turns D.shown dial.new ≡ failed_turns D.shown dial.old }
     {
-        self.sweep(cache, dial, jobs, results, timer);
-        let next = self.fill(cache, jobs, results, timer);
         self.poll_due(cache, dial, jobs, results, timer);
-        next
+        self.sweep(cache, dial, jobs, results, timer);
+        self.fill(cache, jobs, results, timer)
     }
 
     // Draws jobs and begins them, while a place is free and a job is due: when the next may begin.
@@ -304,10 +349,13 @@ impl<W: Wire> RunLoop<W> {
     ) -> Next
         requires kept { AreKept (world_of W.untouched W.happened (T.tells timer.now))
             (C.home cache.now) self.old.slab.slots }
+        requires told { AreTold (T.tells_micros timer.now) self.old.begins.moments.items }
         ensures kept { AreKept (world_of W.untouched W.happened (T.tells timer.now))
             (C.home cache.now) self.new.slab.slots }
+        ensures told { AreTold (T.tells_micros timer.now) self.new.begins.moments.items }
         ensures goes { RunsOn (rules_of C.did (world_of W.untouched W.happened (T.tells
-            timer.now)) (T.may_stop timer.now) (J.job_at jobs.old) R.took)
+            timer.now)) (T.may_stop timer.now) (J.job_at jobs.old)
+            (TakesTimed (T.tells_micros timer.now) R.took))
             (point cache.now (J.drawn jobs.old) self.old.slab.slots results.old)
             (point cache.now (J.drawn jobs.new) self.new.slab.slots results.new) }
         ensures jobs { J.job_at jobs.new ≡ J.job_at jobs.old }
@@ -318,7 +366,7 @@ impl<W: Wire> RunLoop<W> {
             if self.slab.len() >= self.places {
                 return Next::Free;
             }
-            match jobs.draw(timer.micros()) {
+            match jobs.draw(timer.moment()) {
                 Draw::Job(number) => self.begin(number, cache, jobs, results, timer),
                 Draw::Later(due) => return Next::At(due),
                 Draw::Over => return Next::Never,
@@ -338,11 +386,14 @@ impl<W: Wire> RunLoop<W> {
     )
         requires kept { AreKept (world_of W.untouched W.happened (T.tells timer.now))
             (C.home cache.now) self.old.slab.slots }
+        requires told { AreTold (T.tells_micros timer.now) self.old.begins.moments.items }
         requires free { sum_by one_if_some self.old.slab.slots < self.old.places }
         ensures kept { AreKept (world_of W.untouched W.happened (T.tells timer.now))
             (C.home cache.now) self.new.slab.slots }
+        ensures told { AreTold (T.tells_micros timer.now) self.new.begins.moments.items }
         ensures goes { RunsOnWith (rules_of C.did (world_of W.untouched W.happened (T.tells
-            timer.now)) (T.may_stop timer.now) (J.job_at jobs.now) R.took) number cache.now
+            timer.now)) (T.may_stop timer.now) (J.job_at jobs.now)
+            (TakesTimed (T.tells_micros timer.now) R.took)) number cache.now
             self.old.slab.slots results.old self.new.slab.slots results.new }
         ensures places { self.new.places ≡ self.old.places }
     {
@@ -362,9 +413,11 @@ impl<W: Wire> RunLoop<W> {
     ) -> bool
         requires kept { AreKept (world_of W.untouched W.happened (T.tells timer.now))
             (C.home cache.now) self.old.slab.slots }
+        requires told { AreTold (T.tells_micros timer.now) self.old.begins.moments.items }
         requires free { sum_by one_if_some self.old.slab.slots < self.old.places }
         ensures kept { AreKept (world_of W.untouched W.happened (T.tells timer.now))
             (C.home cache.now) self.new.slab.slots }
+        ensures told { AreTold (T.tells_micros timer.now) self.new.begins.moments.items }
         ensures joins { JoinsIf result (J.job_at jobs.now number) number
             self.old.slab.slots self.new.slab.slots }
         ensures places { self.new.places ≡ self.old.places }
@@ -378,7 +431,7 @@ impl<W: Wire> RunLoop<W> {
         };
         match self.slab.join(parts, cache, timer) {
             Ok(place) => {
-                self.begins.begin(place, timer.micros());
+                self.begins.begin(place, timer.moment());
                 true
             }
             Err(unused) => {
@@ -388,9 +441,9 @@ impl<W: Wire> RunLoop<W> {
         }
     }
 
-    // Stops the jobs that the timer stops, if it was not asked for ten milliseconds; each has its
-    // result. The first transfer that waits at each site asks for its connection, though no bell
-    // rang.
+    // Stops the jobs that the timer stops, if it was not asked for ten milliseconds, and all that
+    // the last turn of the dial found was polled. Each has its result. The first transfer that
+    // waits at each site asks for its connection, though no bell rang.
     fn sweep<C: Cache<W>, D: Dial<W>, J: Jobs, R: Results, T: Timer>(
         &mut self,
         cache: &mut C,
@@ -401,16 +454,22 @@ impl<W: Wire> RunLoop<W> {
     )
         requires kept { AreKept (world_of W.untouched W.happened (T.tells timer.now))
             (C.home cache.old) self.old.slab.slots }
+        requires told { AreTold (T.tells_micros timer.now) self.old.begins.moments.items }
         ensures stays { C.home cache.new ≡ C.home cache.old }
         ensures kept { AreKept (world_of W.untouched W.happened (T.tells timer.now))
             (C.home cache.new) self.new.slab.slots }
+        ensures told { AreTold (T.tells_micros timer.now) self.new.begins.moments.items }
         ensures goes { RunsOn (rules_of C.did (world_of W.untouched W.happened (T.tells
-            timer.now)) (T.may_stop timer.now) (J.job_at _jobs.now) R.took)
+            timer.now)) (T.may_stop timer.now) (J.job_at _jobs.now)
+            (TakesTimed (T.tells_micros timer.now) R.took))
             (point cache.old (J.drawn _jobs.now) self.old.slab.slots results.old)
             (point cache.new (J.drawn _jobs.now) self.new.slab.slots results.new) }
         ensures turns { failed_turns D.shown dial.new ≡ failed_turns D.shown dial.old }
     {
-        let now = timer.micros();
+        if self.rounds == 0 && self.slab.has_due() {
+            return;
+        }
+        let now = timer.moment();
         if now.saturating_sub(self.swept) < SWEEP_MICROS {
             return;
         }
@@ -425,8 +484,8 @@ impl<W: Wire> RunLoop<W> {
         }
     }
 
-    // Stops the job at that place, if one is under way there that the timer stops; it has its
-    // result then.
+    // Stops the job at that place, if one is under way there that the timer stops as of the last
+    // turn of the dial. It has its result then.
     fn stop_at<C: Cache<W>, D: Dial<W>, J: Jobs, R: Results, T: Timer>(
         &mut self,
         place: usize,
@@ -438,11 +497,14 @@ impl<W: Wire> RunLoop<W> {
     )
         requires kept { AreKept (world_of W.untouched W.happened (T.tells timer.now))
             (C.home cache.old) self.old.slab.slots }
+        requires told { AreTold (T.tells_micros timer.now) self.old.begins.moments.items }
         ensures stays { C.home cache.new ≡ C.home cache.old }
         ensures kept { AreKept (world_of W.untouched W.happened (T.tells timer.now))
             (C.home cache.new) self.new.slab.slots }
+        ensures told { AreTold (T.tells_micros timer.now) self.new.begins.moments.items }
         ensures goes { RunsOn (rules_of C.did (world_of W.untouched W.happened (T.tells
-            timer.now)) (T.may_stop timer.now) (J.job_at _jobs.now) R.took)
+            timer.now)) (T.may_stop timer.now) (J.job_at _jobs.now)
+            (TakesTimed (T.tells_micros timer.now) R.took))
             (point cache.old (J.drawn _jobs.now) self.old.slab.slots results.old)
             (point cache.new (J.drawn _jobs.now) self.new.slab.slots results.new) }
         ensures turns { failed_turns D.shown dial.new ≡ failed_turns D.shown dial.old }
@@ -450,7 +512,10 @@ impl<W: Wire> RunLoop<W> {
         let Some(number) = self.slab.transfer_at(place) else {
             return;
         };
-        if !timer.stops(number, self.begins.began(place)) {
+        let Some(began) = self.begins.began(place) else {
+            return;
+        };
+        if !timer.stops(number, began, self.turned) {
             return;
         }
         let phases = self.slab.phases_at(place);
@@ -460,9 +525,10 @@ impl<W: Wire> RunLoop<W> {
         let span = self.begins.span(place, phases, None, used.retried(), timer);
         results.take(used.transfer(), done, span);
         self.spares.keep(Some(used));
+        self.has_news = true;
     }
 
-    // Polls what is due, in one round; each job that has ended has its result.
+    // Polls the transfers that are due, in one round. Each job that ends has its result.
     fn poll_due<C: Cache<W>, D: Dial<W>, J: Jobs, R: Results, T: Timer>(
         &mut self,
         cache: &mut C,
@@ -473,15 +539,19 @@ impl<W: Wire> RunLoop<W> {
     )
         requires kept { AreKept (world_of W.untouched W.happened (T.tells timer.now))
             (C.home cache.old) self.old.slab.slots }
+        requires told { AreTold (T.tells_micros timer.now) self.old.begins.moments.items }
         ensures stays { C.home cache.new ≡ C.home cache.old }
         ensures kept { AreKept (world_of W.untouched W.happened (T.tells timer.now))
             (C.home cache.new) self.new.slab.slots }
+        ensures told { AreTold (T.tells_micros timer.now) self.new.begins.moments.items }
         ensures goes { RunsOn (rules_of C.did (world_of W.untouched W.happened (T.tells
-            timer.now)) (T.may_stop timer.now) (J.job_at _jobs.now) R.took)
+            timer.now)) (T.may_stop timer.now) (J.job_at _jobs.now)
+            (TakesTimed (T.tells_micros timer.now) R.took))
             (point cache.old (J.drawn _jobs.now) self.old.slab.slots results.old)
             (point cache.new (J.drawn _jobs.now) self.new.slab.slots results.new) }
         ensures turns { failed_turns D.shown dial.new ≡ failed_turns D.shown dial.old }
     {
+        let before = self.slab.len();
         let mut context = self.task.begin();
         poll_round(
             &mut self.slab,
@@ -498,6 +568,7 @@ impl<W: Wire> RunLoop<W> {
         context.end(&turn);
         let granted = self.slab.take_granted();
         self.late.grant(granted, timer, self.heard);
+        self.has_news |= self.slab.len() < before;
     }
 
     // Waits, if nothing can be done at once, or eight rounds were taken since the last turn.
@@ -505,6 +576,7 @@ impl<W: Wire> RunLoop<W> {
         ensures turns { CountsTurn result (failed_turns D.shown dial.old)
             (failed_turns D.shown dial.new) }
         ensures slots { self.new.slab.slots ≡ self.old.slab.slots }
+        ensures begins { self.new.begins ≡ self.old.begins }
     {
         self.tell_spent(timer);
         if self.rounds < MORE_ROUNDS && self.goes_on(next) {
@@ -526,7 +598,7 @@ impl<W: Wire> RunLoop<W> {
     // How long a turn of the dial may wait, if no transfer becomes due.
     fn most_wait<T: Timer>(&self, timer: &T, next: Next) -> Duration {
         match next {
-            Next::At(due) => Duration::from_micros(due.saturating_sub(timer.micros())),
+            Next::At(due) => Duration::from_micros(due.saturating_sub(timer.moment())),
             Next::Free if self.goes_on(next) => Duration::ZERO,
             Next::Free | Next::Never => Duration::MAX,
         }
@@ -538,6 +610,7 @@ impl<W: Wire> RunLoop<W> {
         ensures turns { CountsTurn result (failed_turns D.shown dial.old)
             (failed_turns D.shown dial.new) }
         ensures slots { self.new.slab.slots ≡ self.old.slab.slots }
+        ensures begins { self.new.begins ≡ self.old.begins }
     {
         let most = self.most_wait(timer, next);
         if !self.slab.has_due() {
@@ -545,6 +618,7 @@ impl<W: Wire> RunLoop<W> {
         }
         timer.fall_asleep();
         self.hear(timer.rings());
+        self.turned = timer.moment();
         let turned = self.slab.turn(dial, most);
         let rings = timer.rings();
         let was_rung = timer.wake_up();
@@ -558,6 +632,7 @@ impl<W: Wire> RunLoop<W> {
     // Rings the bell if leases or tickets were spent since it was asked last.
     fn tell_spent<T: Timer>(&mut self, timer: &T)
         ensures slots { self.new.slab.slots ≡ self.old.slab.slots }
+        ensures begins { self.new.begins ≡ self.old.begins }
     {
         if self.slab.take_spent() {
             self.heard = timer.ring(self.heard);
@@ -567,9 +642,11 @@ impl<W: Wire> RunLoop<W> {
     // Lets the first transfer that waits at each site ask for its connection, if the bell rang.
     fn hear(&mut self, rings: u64)
         ensures slots { self.new.slab.slots ≡ self.old.slab.slots }
+        ensures begins { self.new.begins ≡ self.old.begins }
     {
         if rings != self.heard {
             self.heard = rings;
+            self.has_news = true;
             self.slab.ask_sites();
         }
     }
@@ -586,7 +663,8 @@ impl<W: Wire> RunLoop<W> {
     )
         requires may { MayClose end (T.may_stop _timer.now) self.now.slab.slots }
         ensures goes { RunsOn (rules_at end (rules_of C.did (world_of W.untouched W.happened
-            (T.tells _timer.now)) (T.may_stop _timer.now) (J.job_at jobs.old) R.took))
+            (T.tells _timer.now)) (T.may_stop _timer.now) (J.job_at jobs.old)
+            (TakesTimed (T.tells_micros _timer.now) R.took)))
             (point _cache.now (J.drawn jobs.old) self.now.slab.slots results.old)
             (point _cache.now (J.drawn jobs.new) self.now.slab.slots results.new) }
         ensures jobs { J.job_at jobs.new ≡ J.job_at jobs.old }
@@ -615,10 +693,12 @@ impl<W: Wire> RunLoop<W> {
     )
         requires kept { AreKept (world_of W.untouched W.happened (T.tells timer.now))
             (C.home cache.old) self.old.slab.slots }
+        requires told { AreTold (T.tells_micros timer.now) self.old.begins.moments.items }
         requires may { MayClose end (T.may_stop timer.now) self.old.slab.slots }
         ensures stays { C.home cache.new ≡ C.home cache.old }
         ensures goes { RunsOn (rules_at end (rules_of C.did (world_of W.untouched W.happened
-            (T.tells timer.now)) (T.may_stop timer.now) (J.job_at _jobs.now) R.took))
+            (T.tells timer.now)) (T.may_stop timer.now) (J.job_at _jobs.now)
+            (TakesTimed (T.tells_micros timer.now) R.took)))
             (point cache.old (J.drawn _jobs.now) self.old.slab.slots results.old)
             (point cache.new (J.drawn _jobs.now) self.new.slab.slots results.new) }
         ensures none { self.new.slab.slots ≡ [] }

@@ -2,19 +2,32 @@
 
 use exchange::Clock;
 
+/// A clock of microseconds. The ghost member is the moments that it may return.
+pub trait MicroClock: Clock {
+    ghost use Rattle.std.specs.Prelude.{ℕ};
+
+    /// It may return that moment.
+    ghost tells_micros: { Self → ℕ → Type 0 };
+
+    /// The microseconds since some moment that stays the same.
+    fn moment(&self) -> u64
+        ensures { tells_micros self.now result };
+}
+
 /// The time of a run, what ends jobs before their response, and the bell between its loops.
 ///
-/// The ghost member tells contracts which jobs may be stopped.
-pub trait Timer: Clock {
+/// The ghost member is the jobs that it may stop.
+pub trait Timer: MicroClock {
     ghost use Rattle.std.specs.Prelude.{ℕ};
     ghost use Rattle.std.specs.Bool.{OnTrue};
 
     /// The job of that number may be stopped.
     ghost may_stop: { Self → ℕ → Type 0 };
 
-    /// Whether the job of that number, which began at that moment, is to be stopped now: it is over
-    /// its limit of time, or nobody wants it any more.
-    fn stops(&self, number: u64, began: u64) -> bool
+    /// True if the job of that number, which began at `began`, is to be stopped, as of `now`: it is
+    /// over its time limit, or nobody wants it any more. `now` is the last moment by which all that
+    /// had arrived was read.
+    fn stops(&self, number: u64, began: u64, now: u64) -> bool
         ensures { OnTrue result (may_stop self.now number) };
 
     /// Whether the run is to end now: all jobs are stopped.
@@ -57,7 +70,7 @@ pub trait Timer: Clock {
     /// loop's sweep, or the end of a turn's time, found it.
     fn note_late(&self, _grants: u64) {}
 
-    /// Does what else is to be done from time to time. A loop calls it at each sweep, every ten
-    /// milliseconds at most, while none of its transfers is polled.
+    /// Does other work that is due from time to time. Each loop calls it every ten milliseconds or
+    /// so, while none of its transfers is polled; several loops may do so at once.
     fn sweep(&self) {}
 }

@@ -1,6 +1,6 @@
 //! The progress of a load, on standard error, and Ctrl-C.
 
-use crate::loading::interrupt::is_interrupted;
+use crate::loading::interrupt::{interrupt_descriptor, is_interrupted};
 use load_run::{Seen, Watch};
 use std::io::{IsTerminal, Write};
 use std::sync::atomic::{AtomicBool, AtomicU64, Ordering};
@@ -15,6 +15,8 @@ pub(crate) struct ProgressLine<'a> {
     is_shown: bool,
     /// When it was drawn last, in microseconds after the start; 0 if it was not.
     drawn: AtomicU64,
+    /// The descriptor of the launcher's pipe.
+    interrupt: Option<i32>,
     is_interrupted: AtomicBool,
 }
 
@@ -25,6 +27,7 @@ impl<'a> ProgressLine<'a> {
             system,
             is_shown: is_shown && system.stderr().is_terminal(),
             drawn: AtomicU64::new(0),
+            interrupt: interrupt_descriptor(system),
             is_interrupted: AtomicBool::new(false),
         }
     }
@@ -43,12 +46,16 @@ impl<'a> ProgressLine<'a> {
 }
 
 impl Watch for ProgressLine<'_> {
+    ghost use Rattle.std.specs.Prelude.{⊤};
+
+    ghost may_end = { λ line. ⊤ };
+
     fn is_over(&self) -> bool {
         self.is_interrupted()
     }
 
     fn look(&self, seen: Seen) {
-        if is_interrupted() {
+        if is_interrupted(self.interrupt) {
             self.is_interrupted.store(true, Ordering::SeqCst);
         }
         let before = self.drawn.load(Ordering::SeqCst);

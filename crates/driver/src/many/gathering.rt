@@ -6,6 +6,7 @@ ghost use Rattle.std.specs.Prelude.{vec_capacity};
 ghost use Rattle.budget.specs.Words.{whole};
 ghost use Rattle.job_counter.specs.Draws.{first_seat};
 ghost use Rattle.exchange.specs.Worlds.{world_of};
+ghost use Rattle.run_loop.specs.Moments.{TakesTimed};
 ghost use Rattle.driver.specs.ManyWork.{HaveLooped, IsManyRun, HavePasses, handed_back};
 
 use crate::many::job_source::JobSource;
@@ -28,16 +29,19 @@ pub(crate) fn gather_work<W: Wire, N: Names, D: Dial<W>, F: Results, S: JobSourc
     requires share { seat.share + vec_len workers ≡ whole }
     requires left { (begun : List (F × ℕ)) × HaveLooped (world_of W.untouched W.happened (T.tells
         common.now.timer.now)) (T.may_stop common.now.timer.now) N.names (S.job_at
-        common.now.source.now) F.took common.now.claim.now begun workers.items }
+        common.now.source.now) (TakesTimed (T.tells_micros common.now.timer.now) F.took)
+        common.now.claim.now begun workers.items }
     requires none { finished.items ≡ [] }
     requires room { vec_len workers ≤ vec_capacity finished }
     ensures passes { HavePasses N.names result.workers.items }
     ensures gathers { (begun : List (F × ℕ)) → HaveLooped (world_of W.untouched W.happened (T.tells
         common.now.timer.now)) (T.may_stop common.now.timer.now) N.names (S.job_at
-        common.now.source.now) F.took common.now.claim.now begun
+        common.now.source.now) (TakesTimed (T.tells_micros common.now.timer.now) F.took)
+        common.now.claim.now begun
         workers.items → IsManyRun (world_of W.untouched W.happened (T.tells
         common.now.timer.now)) (T.may_stop common.now.timer.now) N.names (S.job_at
-        common.now.source.now) F.took common.now.claim.now.jobs (reverse begun) (handed_back
+        common.now.source.now) (TakesTimed (T.tells_micros common.now.timer.now) F.took)
+        common.now.claim.now.jobs (reverse begun) (handed_back
         (failed_turns D.shown) result.workers.items) result.end result.drawn }
 {
     let claim = common.claim;

@@ -4,7 +4,7 @@ use crate::bell::Bell;
 use crate::faults::Faults;
 use crate::many::loop_states::LoopStates;
 use exchange::{Alarm, Clock};
-use run_loop::Timer;
+use run_loop::{MicroClock, Timer};
 use std::sync::atomic::{AtomicU64, Ordering};
 
 /// A run's timer, for one of its workers: a fault that another worker met breaks the run off, and
@@ -46,11 +46,19 @@ impl<'a, T: Timer, A: Alarm> Clock for RunTimer<'a, T, A> {
     }
 }
 
+impl<'a, T: Timer, A: Alarm> MicroClock for RunTimer<'a, T, A> {
+    ghost tells_micros = { λ timer moment. T.tells_micros timer.timer.now moment };
+
+    fn moment(&self) -> u64 {
+        self.timer.moment()
+    }
+}
+
 impl<'a, T: Timer, A: Alarm> Timer for RunTimer<'a, T, A> {
     ghost may_stop = { λ timer job. T.may_stop timer.timer.now job };
 
-    fn stops(&self, number: u64, began: u64) -> bool {
-        self.timer.stops(number, began)
+    fn stops(&self, number: u64, began: u64, now: u64) -> bool {
+        self.timer.stops(number, began, now)
     }
 
     fn is_over(&self) -> bool {
@@ -104,8 +112,6 @@ impl<'a, T: Timer, A: Alarm> Timer for RunTimer<'a, T, A> {
     }
 
     fn sweep(&self) {
-        if self.own == 0 {
-            self.timer.sweep();
-        }
+        self.timer.sweep();
     }
 }

@@ -7,6 +7,7 @@ ghost use Rattle.std.specs.List.{All};
 ghost use Rattle.job_counter.specs.Draws.{first_seat, new_seat};
 ghost use Rattle.exchange.specs.Worlds.{world_of};
 ghost use Rattle.shared_cache.specs.Passes.{IsPassOf, IsNewPass};
+ghost use Rattle.run_loop.specs.Moments.{TakesTimed};
 ghost use Rattle.driver.specs.ManyWork.{IsManyRun, handed_in, handed_back, are_bad_tools};
 ghost use Rattle.driver.specs.ManyWork.{IsHiredLoop, AllBegin, Loops, LoopsFrom, left_with};
 ghost use Rattle.driver.specs.ManyWork.{HaveLooped, HavePasses, IsNotBegunFor};
@@ -101,7 +102,8 @@ pub fn run_many<
     timer: &T,
 ) -> Result<ManyReport<D, F>, NotBegun<D, F>>
     ensures ok { IfOk result (λ report. IsManyRun (world_of W.untouched W.happened (T.tells
-        timer.now)) (T.may_stop timer.now) N.names (S.job_at source.now) F.took jobs (handed_in
+        timer.now)) (T.may_stop timer.now) N.names (S.job_at source.now)
+        (TakesTimed (T.tells_micros timer.now) F.took) jobs (handed_in
         (failed_turns D.shown) tools.items) (handed_back (failed_turns D.shown)
         report.workers.items) report.end report.drawn) }
     ensures passes_back { IfOk result (λ report. HavePasses N.names report.workers.items) }
@@ -175,7 +177,8 @@ fn carry_all<
         × (vec_len tools ≤ vec_capacity room.finished) }
     ensures passes { HavePasses N.names result.workers.items }
     ensures runs { IsManyRun (world_of W.untouched W.happened (T.tells timer.now)) (T.may_stop
-        timer.now) N.names (S.job_at source.now) F.took room.claim.jobs (handed_in
+        timer.now) N.names (S.job_at source.now) (TakesTimed (T.tells_micros timer.now) F.took)
+        room.claim.jobs (handed_in
         (failed_turns D.shown) tools.items) (handed_back (failed_turns D.shown)
         result.workers.items) result.end result.drawn }
 {
@@ -220,8 +223,9 @@ fn loop_at_once<
     requires hired { All (IsHiredLoop N.names common.now.claim.now) workers.old.items }
     ensures looped { (begun : List (F × ℕ)) → AllBegin begun workers.old.items →
         HaveLooped (world_of W.untouched W.happened (T.tells common.now.timer.now)) (T.may_stop
-        common.now.timer.now) N.names (S.job_at common.now.source.now) F.took
-        common.now.claim.now begun workers.new.items }
+        common.now.timer.now) N.names (S.job_at common.now.source.now)
+        (TakesTimed (T.tells_micros common.now.timer.now) F.took) common.now.claim.now begun
+        workers.new.items }
     ensures number { vec_len workers.new ≡ vec_len workers.old }
 {
     let threads = workers.len();
@@ -233,7 +237,8 @@ fn loop_at_once<
             requires { IsHiredLoop N.names common.now.claim.now worker.now }
             ensures { LoopsFrom (world_of W.untouched W.happened (T.tells
                 common.entry.now.timer.now)) (T.may_stop common.entry.now.timer.now) N.names
-                (S.job_at common.entry.now.source.now) F.took common.entry.now.claim.now
+                (S.job_at common.entry.now.source.now) (TakesTimed (T.tells_micros
+                common.entry.now.timer.now) F.took) common.entry.now.claim.now
                 worker.entry.now worker.exit.now }
         {
             work_in_loop(
@@ -273,8 +278,9 @@ fn work_in_loop<
 )
     requires hired { IsHiredLoop N.names common.now.claim.now worker.old }
     ensures looped { LoopsFrom (world_of W.untouched W.happened (T.tells common.now.timer.now))
-        (T.may_stop common.now.timer.now) N.names (S.job_at common.now.source.now) F.took
-        common.now.claim.now worker.old worker.new }
+        (T.may_stop common.now.timer.now) N.names (S.job_at common.now.source.now)
+        (TakesTimed (T.tells_micros common.now.timer.now) F.took) common.now.claim.now worker.old
+        worker.new }
 {
     let ready = worker.begin();
     let left = ready.work(rt, cache, common, alarms, alarm);
@@ -299,7 +305,8 @@ impl<W: Wire, D: Dial<W>, F: Results> Ready<W, D, F> {
         requires new_pass { IsNewPass self.pass }
         requires seat { self.seat ≡ new_seat common.now.claim.now }
         ensures { Loops (world_of W.untouched W.happened (T.tells common.now.timer.now))
-            (T.may_stop common.now.timer.now) N.names (S.job_at common.now.source.now) F.took
+            (T.may_stop common.now.timer.now) N.names (S.job_at common.now.source.now)
+            (TakesTimed (T.tells_micros common.now.timer.now) F.took)
             common.now.claim.now (self.results, failed_turns D.shown self.dial)
             (left_with result.results (failed_turns D.shown result.dial) result.seat result.pass
             result.end) }

@@ -1,6 +1,6 @@
 //! The time of a load, which ends jobs and the run, and keeps the logs short meanwhile.
 
-ghost use Rattle.std.specs.Prelude.{⊤};
+ghost use Rattle.load_run.specs.Stopping.{MayStop};
 
 use crate::many::plan::LoadTimes;
 use crate::many::progress::Progress;
@@ -8,37 +8,43 @@ use crate::many::wait_sum::WaitSum;
 use crate::many::watch::{Seen, Watch};
 use bundle::Bundle;
 use exchange::Clock;
-use run_loop::Timer;
+use run_loop::{MicroClock, Timer};
 use shared_cache::{Names, SharedCache};
-use socket::{PolledWire, SystemClock};
+use socket::PolledWire;
 use std::sync::Wait;
 use std::sync::atomic::{AtomicU64, Ordering};
+
+/// How often the load is looked after, in microseconds.
+const SWEEP_MICROS: u64 = 10_000;
 
 /// How often the logs are cut, in microseconds.
 const CUT_MICROS: u64 = 100_000;
 
-/// The time of a load: it stops jobs that are over their limit of time, and ends the run once its
-/// seconds are up, or if who watches it ends it. Every 100 milliseconds it cuts the log of every
-/// host, so that memory does not grow with the number of jobs.
+/// The time of a load, by the clock `K`: it stops jobs that are over their time limit, and ends the
+/// run once its seconds are up, or if its watcher ends it. Every 100 milliseconds it cuts the log of
+/// every host, so that memory does not grow with the number of jobs. Of several threads that sweep
+/// at once one does so.
 #[derive(Drop)]
-pub(crate) struct LoadTimer<'a, N: Names, R: Wait, V: Watch> {
+pub(crate) struct LoadTimer<'a, N: Names, R: Wait, V: Watch, K: MicroClock> {
     pub(crate) rt: &'a R,
-    pub(crate) clock: SystemClock<'a, HostRuntime>,
+    pub(crate) clock: K,
     pub(crate) cache: &'a SharedCache<PolledWire, N>,
     pub(crate) times: LoadTimes,
     pub(crate) watch: &'a V,
-    /// Of each worker.
+    /// The progress of each worker.
     pub(crate) progress: &'a [Progress],
-    /// The logs are kept whole.
+    /// The logs are not cut.
     pub(crate) keeps_logs: bool,
-    /// When they were cut last, in microseconds.
+    /// The moment of the last sweep, in microseconds.
+    pub(crate) swept: AtomicU64,
+    /// The moment at which the logs were cut last, in microseconds.
     pub(crate) cut: AtomicU64,
     pub(crate) waits: WaitSum,
 }
 
-impl<N: Names, R: Wait, V: Watch> LoadTimer<'_, N, R, V> {
-    // Tells who watches how far the load is.
-    fn tell(&self, micros: u64) {
+impl<N: Names, R: Wait, V: Watch, K: MicroClock> LoadTimer<'_, N, R, V, K> {
+    // Reports to the watcher how far the load is.
+    fn report(&self, micros: u64) {
         let mut done = 0u64;
         let mut failed = 0u64;
         for own in self.progress {
@@ -72,10 +78,21 @@ impl<N: Names, R: Wait, V: Watch> LoadTimer<'_, N, R, V> {
             let _cut = self.cache.cut(self.rt, site);
         }
     }
+
+    // True if no thread has swept for ten milliseconds, and this one is the first to do so now.
+    fn takes_sweep(&self, now: u64) -> bool {
+        let swept = self.swept.load(Ordering::SeqCst);
+        if now.saturating_sub(swept) < SWEEP_MICROS {
+            return false;
+        }
+        self.swept
+            .compare_exchange(swept, now, Ordering::SeqCst, Ordering::SeqCst)
+            .is_ok()
+    }
 }
 
-impl<N: Names, R: Wait, V: Watch> Clock for LoadTimer<'_, N, R, V> {
-    ghost tells = { λ timer moment. ⊤ };
+impl<N: Names, R: Wait, V: Watch, K: MicroClock> Clock for LoadTimer<'_, N, R, V, K> {
+    ghost tells = { λ timer moment. K.tells timer.clock moment };
 
     fn now(&self) -> u64 {
         self.clock.now()
@@ -86,27 +103,38 @@ impl<N: Names, R: Wait, V: Watch> Clock for LoadTimer<'_, N, R, V> {
     }
 }
 
-impl<N: Names, R: Wait, V: Watch> Timer for LoadTimer<'_, N, R, V> {
-    ghost may_stop = { λ timer number. ⊤ };
+impl<N: Names, R: Wait, V: Watch, K: MicroClock> MicroClock for LoadTimer<'_, N, R, V, K> {
+    ghost tells_micros = { λ timer moment. K.tells_micros timer.clock moment };
 
-    fn stops(&self, _number: u64, began: u64) -> bool {
+    fn moment(&self) -> u64 {
+        self.clock.moment()
+    }
+}
+
+impl<N: Names, R: Wait, V: Watch, K: MicroClock> Timer for LoadTimer<'_, N, R, V, K> {
+    ghost may_stop = { λ timer number. MayStop timer.times (V.may_end timer.watch.now) };
+
+    fn stops(&self, _number: u64, began: u64, now: u64) -> bool {
         match self.times.timeout() {
-            Some(timeout) => self.micros().saturating_sub(began) >= timeout,
+            Some(timeout) => now.saturating_sub(began) >= timeout,
             None => false,
         }
     }
 
     fn is_over(&self) -> bool {
         let is_up = match self.times.end() {
-            Some(end) => self.micros() >= end,
+            Some(end) => self.moment() >= end,
             None => false,
         };
         is_up || self.watch.is_over()
     }
 
     fn sweep(&self) {
-        let now = self.micros();
-        self.tell(now);
+        let now = self.moment();
+        if !self.takes_sweep(now) {
+            return;
+        }
+        self.report(now);
         self.add_waits(now);
         let cut = self.cut.load(Ordering::SeqCst);
         if self.keeps_logs || now.saturating_sub(cut) < CUT_MICROS {

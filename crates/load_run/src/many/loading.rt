@@ -13,12 +13,15 @@ ghost use Rattle.load_run.specs.ManyLoads.{AreLogsIn, Collects, HasCarriedOut, H
 ghost use Rattle.load_run.specs.ManyLoads.{IsLoadedMany, IsLoadedManyBy, IsManyRefusedFor, IsNone};
 ghost use Rattle.load_run.specs.ManyLoads.{jobs_of, workers_of};
 ghost use Rattle.load_run.specs.Counting.{IsUncounted, missed_of, warm_of};
+ghost use Rattle.load_run.specs.Stopping.{MayStop};
 ghost use Rattle.load_run.specs.UrlJobs.{in_turn};
+ghost use Rattle.run_loop.specs.Going.{is_fault};
 
 use crate::error::LoadError;
 use crate::loading::{cut_logs, error_of};
 use crate::many::account::Collected;
 use crate::many::counted_results::{CountedResults, Counting};
+use crate::many::load_clock::LoadClock;
 use crate::many::load_timer::LoadTimer;
 use crate::many::plan::{LoadTimes, ManyPlan};
 use crate::many::tools::{alarms_of, progress_for, tools_for};
@@ -28,8 +31,9 @@ use crate::many::watch::Watch;
 use budget::Refusal;
 use conn_log::Entry;
 use driver::{DriverFault, ManyReport, NotBegun, Tools, run_many};
-use exchange::{Clock, Wire};
+use exchange::Wire;
 use load_figures::Figures;
+use run_loop::MicroClock;
 use shared_cache::{Gathered, Names, Plan, SharedCache, discard_all};
 use socket::{PolledDial, PolledWire, SystemClock};
 use std::alloc::{AllocGlobal, Global};
@@ -93,7 +97,8 @@ pub fn load_many<R: Threads + Wait + RandomSource + AllocGlobal + Sync, V: Watch
     watch: &V,
 ) -> Result<LoadedMany, LoadError>
     ensures ok { IfOk result (IsLoadedMany (world_of ⟦<PolledWire as Wire>⟧.untouched
-        ⟦<PolledWire as Wire>⟧.happened (λ moment. ⊤)) plan.entry) }
+        ⟦<PolledWire as Wire>⟧.happened (λ moment. ⊤))
+        (λ number. MayStop plan.entry.times (V.may_end watch.now)) (λ moment. ⊤) plan.entry) }
     ensures workers { OnOk result (are_bad_workers (workers_of plan.entry) ≡ false) }
     ensures refused { IfErr result (IsLoadRefusedFor (workers_of plan.entry)) }
 {
@@ -119,7 +124,9 @@ fn load_by<
 ) -> Result<LoadedMany, LoadError>
     requires { hosts ≡ N.names }
     ensures ok { IfOk result (IsLoadedManyBy (world_of ⟦<PolledWire as Wire>⟧.untouched
-        ⟦<PolledWire as Wire>⟧.happened (λ moment. ⊤)) N.names plan.entry) }
+        ⟦<PolledWire as Wire>⟧.happened (λ moment. ⊤))
+        (λ number. MayStop plan.entry.times (V.may_end watch.now)) (λ moment. ⊤) N.names
+        plan.entry) }
     ensures workers { OnOk result (are_bad_workers (workers_of plan.entry) ≡ false) }
     ensures refused { IfErr result (IsLoadRefusedFor (workers_of plan.entry)) }
 {
@@ -151,8 +158,9 @@ fn run_over<
 ) -> Result<Ran, LoadError>
     requires { jobs ≡ jobs_of plan.jobs }
     ensures ok { IfOk result (λ ran. HasRun (world_of ⟦<PolledWire as Wire>⟧.untouched
-        ⟦<PolledWire as Wire>⟧.happened (λ moment. ⊤)) N.names plan.entry ran.collected
-        ran.drawn) }
+        ⟦<PolledWire as Wire>⟧.happened (λ moment. ⊤))
+        (λ number. MayStop plan.entry.times (V.may_end watch.now)) (λ moment. ⊤) N.names
+        plan.entry ran.collected ran.drawn) }
     ensures of_cache { IfOk result (λ ran. All (IsPassOf N.names) ran.collected.passes.items) }
     ensures workers { OnOk result (are_bad_workers (workers_of plan.entry) ≡ false) }
     ensures refused { IfErr result (IsLoadRefusedFor (workers_of plan.entry)) }
@@ -181,12 +189,13 @@ fn run_over<
     };
     let timer = LoadTimer {
         rt,
-        clock: SystemClock::or_still(system),
+        clock: LoadClock(SystemClock::or_still(system)),
         cache,
         times: plan.times,
         watch,
         progress: &progress,
         keeps_logs: plan.keeps_logs,
+        swept: AtomicU64::new(0),
         cut: AtomicU64::new(0),
         waits: WaitSum::new(),
     };
@@ -200,6 +209,7 @@ fn carry_out<
     N: Names + Send + Sync,
     R: Threads + Wait + RandomSource + AllocGlobal + Sync,
     V: Watch + Sync,
+    K: MicroClock + Sync,
 >(
     rt: &R,
     alloc: Global,
@@ -209,16 +219,19 @@ fn carry_out<
     places: usize,
     tools: Vec<Tools<PolledDial<'_, HostRuntime>, CountedResults<'_>>>,
     collected: Collected,
-    timer: &LoadTimer<'_, N, R, V>,
+    timer: &LoadTimer<'_, N, R, V, K>,
 ) -> Result<Ran, LoadError>
     requires none { collected.passes.items ≡ [] }
     requires room { vec_len tools ≤ vec_capacity collected.passes }
     ensures ok { (hosts : ℕ) (counting : _) → IsNone hosts collected
         → All (λ own. IsUncounted hosts counting own.results) tools.entry.items
         → IfOk result (λ ran. HasCarriedOut (world_of ⟦<PolledWire as Wire>⟧.untouched
-        ⟦<PolledWire as Wire>⟧.happened (λ moment. ⊤)) N.names (in_turn source.now.urls.now
+        ⟦<PolledWire as Wire>⟧.happened (K.tells timer.now.clock))
+        (λ number. MayStop timer.now.times (V.may_end timer.now.watch.now))
+        (K.tells_micros timer.now.clock) N.names (in_turn source.now.urls.now
         source.now.first.now) jobs (length tools.entry.items) hosts counting ran.collected
         ran.drawn) }
+    ensures ended { IfOk result (λ ran. K.tells_micros timer.now.clock ran.ended) }
     ensures of_cache { IfOk result (λ ran. All (IsPassOf N.names) ran.collected.passes.items) }
     ensures workers { OnOk result (are_bad_tools (vec_len tools.entry) places ≡ false) }
     ensures refused { IfErr result (IsManyRefusedFor (vec_len tools.entry) places) }
@@ -233,7 +246,7 @@ fn carry_out<
     match run_many(
         rt, alloc, cache, source, jobs, places, tools, &alarms, timer,
     ) {
-        Ok(report) => collected.ran::<N>(report, timer.micros(), timer.waits.micros()),
+        Ok(report) => collected.ran::<N>(report, timer.moment(), timer.waits.micros()),
         Err(
             NotBegun {
                 fault,
@@ -264,6 +277,8 @@ impl Collected {
         ensures of_cache { IfOk result (λ ran.
             All (IsPassOf N.names) ran.collected.passes.items) }
         ensures drawn { IfOk result (λ ran. ran.drawn ≡ report.entry.drawn) }
+        ensures ended { IfOk result (λ ran. ran.ended ≡ ended) }
+        ensures sound { OnOk result (is_fault report.entry.end ≡ false) }
         ensures refused { IfErr result (λ error. error ≡ LoadError.Run DriverFault.Poll) }
     {
         let ManyReport {

@@ -1,6 +1,6 @@
 //! What a load with many jobs at once is to do.
 
-ghost use Rattle.std.specs.Prelude.{◌≡◌, ℕ, min, unwrap_or};
+ghost use Rattle.std.specs.Prelude.{◌≡◌, ℕ, min, unwrap_or, IsSome, OnSome};
 ghost use Rattle.load_run.specs.Counting.{end_by, limit_of, warm_of};
 
 use crate::many::pace::Rate;
@@ -58,7 +58,8 @@ impl LoadTimes {
 
     /// When the load ends, in microseconds after the start.
     pub(crate) fn end(self) -> Option<u64>
-        ensures { (ended : ℕ) → min (unwrap_or result ended) ended ≡ end_by self ended }
+        ensures end { (ended : ℕ) → min (unwrap_or result ended) ended ≡ end_by self ended }
+        ensures some { OnSome result (IsSome self.seconds) }
     {
         let seconds = self.seconds?;
         Some((self.warmup as u64 + seconds as u64) * SECOND)
@@ -66,7 +67,8 @@ impl LoadTimes {
 
     /// After how many microseconds a job is cancelled.
     pub(crate) fn timeout(self) -> Option<u64>
-        ensures { unwrap_or result 0 ≡ limit_of self.timeout }
+        ensures limit { unwrap_or result 0 ≡ limit_of self.timeout }
+        ensures some { OnSome result (IsSome self.timeout) }
     {
         let seconds = self.timeout?;
         Some(seconds as u64 * SECOND)

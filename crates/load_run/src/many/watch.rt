@@ -12,9 +12,17 @@ pub struct Seen {
 }
 
 /// What watches a load while its jobs are carried out, and may end it.
+///
+/// The ghost member is whether it may end the load.
 pub trait Watch {
-    /// Whether the load is to end now. All threads ask it, often.
-    fn is_over(&self) -> bool;
+    ghost use Rattle.std.specs.Bool.{OnTrue};
+
+    /// It may end the load.
+    ghost may_end: { Self → Type 0 };
+
+    /// True if the load is to end now. All threads ask it, often.
+    fn is_over(&self) -> bool
+        ensures { OnTrue result (may_end self.now) };
 
     /// One of the threads calls it every ten milliseconds or so.
     fn look(&self, _seen: Seen) {}
@@ -25,6 +33,8 @@ pub trait Watch {
 pub struct Unwatched;
 
 impl Watch for Unwatched {
+    ghost may_end = { λ unwatched. ⊥ };
+
     fn is_over(&self) -> bool {
         false
     }

@@ -13,7 +13,7 @@ use conn_log::Want;
 use exchange::{Clock, Done, Job, Prepared};
 use loopback_server::Server;
 use persistence::Method;
-use run_loop::{Draw, Jobs, Results, RunEnd, Span, Timer};
+use run_loop::{Draw, Jobs, MicroClock, Results, RunEnd, Span, Timer};
 use socket::{Addresses, PolledDial, PolledWire};
 use std::alloc::{AllocGlobal, Global};
 use std::io;
@@ -120,10 +120,20 @@ impl Clock for Still {
     }
 }
 
+impl MicroClock for Still {
+    ghost use Rattle.std.specs.Prelude.{⊤};
+
+    ghost tells_micros = { λ clock moment. ⊤ };
+
+    fn moment(&self) -> u64 {
+        0
+    }
+}
+
 impl Timer for Still {
     ghost may_stop = { λ still number. ⊥ };
 
-    fn stops(&self, _number: u64, _began: u64) -> bool {
+    fn stops(&self, _number: u64, _began: u64, _now: u64) -> bool {
         false
     }
 

@@ -14,7 +14,7 @@ use bundle::Did;
 use cache_report::totals;
 use driver::{DriverFault, Finished, ListedJobs, ManyReport, NotBegun, Tools, run_many};
 use exchange::{Clock, Done};
-use run_loop::{Results, RunEnd, Span, Timer};
+use run_loop::{MicroClock, Results, RunEnd, Span, Timer};
 use shared_cache::{Names, Plan, SharedCache};
 use std::alloc::{AllocGlobal, Global};
 use std::marker::Brand;
@@ -81,12 +81,22 @@ impl Clock for Standing {
     }
 }
 
+impl MicroClock for Standing {
+    ghost use Rattle.std.specs.Prelude.{⊤};
+
+    ghost tells_micros = { λ clock moment. ⊤ };
+
+    fn moment(&self) -> u64 {
+        0
+    }
+}
+
 impl Timer for Standing {
     ghost use Rattle.std.specs.Prelude.{⊤};
 
     ghost may_stop = { λ standing job. ⊤ };
 
-    fn stops(&self, _number: u64, _began: u64) -> bool {
+    fn stops(&self, _number: u64, _began: u64, _now: u64) -> bool {
         false
     }
 

@@ -3,7 +3,7 @@
 ghost use Rattle.std.specs.Prelude.{⊤};
 
 use exchange::Clock;
-use run_loop::Timer;
+use run_loop::{MicroClock, Timer};
 use socket::SystemClock;
 use std::sync::atomic::{AtomicU64, Ordering};
 
@@ -42,10 +42,18 @@ impl<'n> Clock for RunClock<'n> {
     }
 }
 
+impl<'n> MicroClock for RunClock<'n> {
+    ghost tells_micros = { λ clock moment. ⊤ };
+
+    fn moment(&self) -> u64 {
+        self.micros()
+    }
+}
+
 impl<'n> Timer for RunClock<'n> {
     ghost may_stop = { λ clock number. ⊥ };
 
-    fn stops(&self, _number: u64, _began: u64) -> bool {
+    fn stops(&self, _number: u64, _began: u64, _now: u64) -> bool {
         false
     }
 

@@ -17,7 +17,7 @@ use conn_log::Want;
 use exchange::{Job, Wire};
 use futures::task::{Doorbell, Solo};
 use persistence::Method;
-use run_loop::{Results, RunEnd, RunLoop};
+use run_loop::{Results, RunEnd, RunLoop, Until};
 use site_table::Places;
 use socket::{Addresses, PolledDial, PolledWire, SystemClock};
 use std::alloc::{AllocGlobal, Global};
@@ -206,8 +206,9 @@ impl<H: Wait + RandomSource + AllocGlobal> Crawler for SystemCrawler<'_, H> {
             limit: self.limit,
             has_ended,
         };
+        let until = if to_end { Until::Ended } else { Until::Begun };
         let end = self.run.run_on(
-            to_end,
+            until,
             self.waits,
             &mut self.pool,
             &mut self.dial,

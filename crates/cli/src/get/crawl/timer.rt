@@ -3,7 +3,7 @@
 ghost use Rattle.std.specs.Prelude.{⊤};
 
 use exchange::Clock;
-use run_loop::Timer;
+use run_loop::{MicroClock, Timer};
 use socket::SystemClock;
 use std::sync::atomic::{AtomicBool, Ordering};
 use std::time;
@@ -31,12 +31,20 @@ impl<C: time::Clock> Clock for CrawlTimer<'_, C> {
     }
 }
 
+impl<C: time::Clock> MicroClock for CrawlTimer<'_, C> {
+    ghost tells_micros = { λ clock moment. ⊤ };
+
+    fn moment(&self) -> u64 {
+        self.micros()
+    }
+}
+
 impl<C: time::Clock> Timer for CrawlTimer<'_, C> {
     ghost may_stop = { λ clock number. ⊤ };
 
-    fn stops(&self, _number: u64, began: u64) -> bool {
+    fn stops(&self, _number: u64, began: u64, now: u64) -> bool {
         let is_known = self.clock.elapsed().is_some();
-        !is_known || self.micros().saturating_sub(began) >= self.limit
+        !is_known || now.saturating_sub(began) >= self.limit
     }
 
     fn is_over(&self) -> bool {

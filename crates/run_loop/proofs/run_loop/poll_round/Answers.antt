@@ -2,12 +2,13 @@
 use Rattle.std.proofs.Common.{rules, subst, ℕ}
 use Rattle.exchange.specs.Worlds.{world_of}
 use Rattle.run_loop.specs.Going.{rules_of, point}
+use Rattle.run_loop.specs.Moments.{TakesTimed}
 use Rattle.run_loop.proofs.RunningOn.{runs_same, runs_then, runs_round, runs_round_ends}
 use Rattle.run_loop.proofs.run_loop.poll_round.Goals as goal
 
 pub loop-ended-init : goal.loop-ended-init
 loop-ended-init g c =
-    let rules_ = rules_of g.C.Cache.did (world_of g.W.Wire.untouched g.W.Wire.happened (g.T.Clock.tells c.args.timer.now)) (g.T.Timer.may_stop c.args.timer.now) (g.J.Jobs.job_at c.args._jobs.now) g.R.Results.took in
+    let rules_ = rules_of g.C.Cache.did (world_of g.W.Wire.untouched g.W.Wire.happened (g.T.Clock.tells c.args.timer.now)) (g.T.Timer.may_stop c.args.timer.now) (g.J.Jobs.job_at c.args._jobs.now) (TakesTimed (g.T.MicroClock.tells_micros c.args.timer.now) g.R.Results.took) in
     record {
       stays = search rules;
       kept = search rules;
@@ -18,7 +19,7 @@ loop-ended-init g c =
 
 pub loop-ended-preserved : goal.loop-ended-preserved
 loop-ended-preserved g c =
-    let rules_ = rules_of g.C.Cache.did (world_of g.W.Wire.untouched g.W.Wire.happened (g.T.Clock.tells c.args.timer.now)) (g.T.Timer.may_stop c.args.timer.now) (g.J.Jobs.job_at c.args._jobs.now) g.R.Results.took in
+    let rules_ = rules_of g.C.Cache.did (world_of g.W.Wire.untouched g.W.Wire.happened (g.T.Clock.tells c.args.timer.now)) (g.T.Timer.may_stop c.args.timer.now) (g.J.Jobs.job_at c.args._jobs.now) (TakesTimed (g.T.MicroClock.tells_micros c.args.timer.now) g.R.Results.took) in
     let drawn = g.J.Jobs.drawn c.args._jobs.now in
     let slots = c.loop-ended.slab.slots in
     let left = c.poll_next.new.self.slots in
@@ -27,14 +28,14 @@ loop-ended-preserved g c =
       stays = search rules;
       kept = search rules;
       goes = runs_then rules_ (point c.args.cache.now drawn c.args.slab.now.slots c.args.results.now) (point c.loop-ended.cache drawn slots c.loop-ended.results) (point c.poll_next.new.cache drawn left c.take.new.self) c.loop-ended.invariant.goes
-          (runs_round_ends rules_ g.D.Dial.shown c.loop-ended.cache c.poll_next.new.cache c.loop-ended.dial c.poll_next.new.dial drawn slots left c.loop-ended.results c.in-Some.ended c.span-span.result c.take.new.self c.in-Some.ensures.polls took);
+          (runs_round_ends rules_ g.D.Dial.shown c.loop-ended.cache c.poll_next.new.cache c.loop-ended.dial c.poll_next.new.dial drawn slots left c.loop-ended.results c.in-Some.ended c.span-span.result c.take.new.self c.in-Some.ensures.polls (took, c.span-span.ensures.timed));
       fewer = search rules;
       turns = search rules;
     }
 
 pub returns-clause-goes : goal.returns-clause-goes
 returns-clause-goes g c =
-    let rules_ = rules_of g.C.Cache.did (world_of g.W.Wire.untouched g.W.Wire.happened (g.T.Clock.tells c.args.timer.now)) (g.T.Timer.may_stop c.args.timer.now) (g.J.Jobs.job_at c.args._jobs.now) g.R.Results.took in
+    let rules_ = rules_of g.C.Cache.did (world_of g.W.Wire.untouched g.W.Wire.happened (g.T.Clock.tells c.args.timer.now)) (g.T.Timer.may_stop c.args.timer.now) (g.J.Jobs.job_at c.args._jobs.now) (TakesTimed (g.T.MicroClock.tells_micros c.args.timer.now) g.R.Results.took) in
     let drawn = g.J.Jobs.drawn c.args._jobs.now in
     let slots = c.loop-ended.slab.slots in
     let left = c.poll_next.new.self.slots in

@@ -5,6 +5,7 @@ use Rattle.job_counter.specs.Draws.{Drawn, together}
 use Rattle.exchange.specs.Dialling.{failed_turns}
 use Rattle.exchange.specs.Worlds.{world_of}
 use Rattle.shared_cache.specs.Passes.{IsPassOf}
+use Rattle.run_loop.specs.Moments.{TakesTimed}
 use Rattle.driver.specs.declared.many.worker.Finished.{Finished}
 use Rattle.run_loop.specs.declared.run_end.RunEnd.{RunEnd}
 use Rattle.run_loop.specs.Going.{worse_end}
@@ -18,7 +19,7 @@ loop-worker-init g c =
     let may_stop = g.T.Timer.may_stop c.args.common.now.timer.now in
     let none : c.args.seat.drawn ≡ [] = search rules in
     record {
-      gathered = λ begun. none_gathered world may_stop g.N.Names.names (g.S.JobSource.job_at c.args.common.now.source.now) g.F.Results.took (failed_turns g.D.Dial.shown) c.args.common.now.claim.now begun c.args.seat c.args.workers.items c.args.finished.items none c.requires.none;
+      gathered = λ begun. none_gathered world may_stop g.N.Names.names (g.S.JobSource.job_at c.args.common.now.source.now) (TakesTimed (g.T.MicroClock.tells_micros c.args.common.now.timer.now) g.F.Results.took) (failed_turns g.D.Dial.shown) c.args.common.now.claim.now begun c.args.seat c.args.workers.items c.args.finished.items none c.requires.none;
       passes = search rules;
       at = search rules;
       share = search rules;
@@ -32,7 +33,7 @@ into_left-dial-requires-clause-none g c =
     let may_stop = g.T.Timer.may_stop c.args.common.now.timer.now in
     let popped : c.loop-worker.workers.items ≡ c.pop.new.self.items ++ c.in-Some.worker ∷ [] = search rules in
     let some = c.requires.left in
-    (has_last world may_stop g.N.Names.names (g.S.JobSource.job_at c.args.common.now.source.now) g.F.Results.took (failed_turns g.D.Dial.shown) c.args.common.now.claim.now some.0 c.loop-worker.seat c.loop-worker.workers.items c.pop.new.self.items c.in-Some.worker c.loop-worker.finished.items c.loop-worker.end popped
+    (has_last world may_stop g.N.Names.names (g.S.JobSource.job_at c.args.common.now.source.now) (TakesTimed (g.T.MicroClock.tells_micros c.args.common.now.timer.now) g.F.Results.took) (failed_turns g.D.Dial.shown) c.args.common.now.claim.now some.0 c.loop-worker.seat c.loop-worker.workers.items c.pop.new.self.items c.in-Some.worker c.loop-worker.finished.items c.loop-worker.end popped
     (c.loop-worker.invariant.gathered some.0 some.1)).0
 
 pub into_left-dial-requires-clause-some : goal.into_left-dial-requires-clause-some
@@ -41,7 +42,7 @@ into_left-dial-requires-clause-some g c =
     let may_stop = g.T.Timer.may_stop c.args.common.now.timer.now in
     let popped : c.loop-worker.workers.items ≡ c.pop.new.self.items ++ c.in-Some.worker ∷ [] = search rules in
     let some = c.requires.left in
-    (has_last world may_stop g.N.Names.names (g.S.JobSource.job_at c.args.common.now.source.now) g.F.Results.took (failed_turns g.D.Dial.shown) c.args.common.now.claim.now some.0 c.loop-worker.seat c.loop-worker.workers.items c.pop.new.self.items c.in-Some.worker c.loop-worker.finished.items c.loop-worker.end popped
+    (has_last world may_stop g.N.Names.names (g.S.JobSource.job_at c.args.common.now.source.now) (TakesTimed (g.T.MicroClock.tells_micros c.args.common.now.timer.now) g.F.Results.took) (failed_turns g.D.Dial.shown) c.args.common.now.claim.now some.0 c.loop-worker.seat c.loop-worker.workers.items c.pop.new.self.items c.in-Some.worker c.loop-worker.finished.items c.loop-worker.end popped
     (c.loop-worker.invariant.gathered some.0 some.1)).1
 
 pub join-requires-clause-other : goal.join-requires-clause-other
@@ -51,7 +52,7 @@ join-requires-clause-other g c =
     let popped : c.loop-worker.workers.items ≡ c.pop.new.self.items ++ c.in-Some.worker ∷ [] = search rules in
     let some = c.requires.left in
     let it = c.into_left-dial.result in
-    (pass_of_last world may_stop g.N.Names.names (g.S.JobSource.job_at c.args.common.now.source.now) g.F.Results.took (failed_turns g.D.Dial.shown) c.args.common.now.claim.now some.0 c.loop-worker.seat c.loop-worker.workers.items c.pop.new.self.items c.in-Some.worker
+    (pass_of_last world may_stop g.N.Names.names (g.S.JobSource.job_at c.args.common.now.source.now) (TakesTimed (g.T.MicroClock.tells_micros c.args.common.now.timer.now) g.F.Results.took) (failed_turns g.D.Dial.shown) c.args.common.now.claim.now some.0 c.loop-worker.seat c.loop-worker.workers.items c.pop.new.self.items c.in-Some.worker
     (left_with it.results (failed_turns g.D.Dial.shown it.dial) it.seat it.pass it.end) c.loop-worker.finished.items c.loop-worker.end popped c.into_left-dial.ensures (c.loop-worker.invariant.gathered some.0 some.1)).1
 
 pub loop-worker-preserved : goal.loop-worker-preserved
@@ -60,7 +61,7 @@ loop-worker-preserved g c =
     let may_stop = g.T.Timer.may_stop c.args.common.now.timer.now in
     let names = g.N.Names.names in
     let job_at = g.S.JobSource.job_at c.args.common.now.source.now in
-    let took = g.F.Results.took in
+    let took = TakesTimed (g.T.MicroClock.tells_micros c.args.common.now.timer.now) g.F.Results.took in
     let failures = failed_turns g.D.Dial.shown in
     let claim = c.args.common.now.claim.now in
     let seat = c.loop-worker.seat in
@@ -99,5 +100,5 @@ returns-clause-gathers g c =
     let may_stop = g.T.Timer.may_stop c.args.common.now.timer.now in
     let none : length c.loop-worker.workers.items ≡ 0 = search rules in
     let some : 0 < length c.loop-worker.finished.items = search rules in
-    λ begun looped. all_gathered world may_stop g.N.Names.names (g.S.JobSource.job_at c.args.common.now.source.now) g.F.Results.took (failed_turns g.D.Dial.shown) c.args.common.now.claim.now begun c.loop-worker.seat c.loop-worker.workers.items c.loop-worker.finished.items c.loop-worker.end c.load-drawn.result
+    λ begun looped. all_gathered world may_stop g.N.Names.names (g.S.JobSource.job_at c.args.common.now.source.now) (TakesTimed (g.T.MicroClock.tells_micros c.args.common.now.timer.now) g.F.Results.took) (failed_turns g.D.Dial.shown) c.args.common.now.claim.now begun c.loop-worker.seat c.loop-worker.workers.items c.loop-worker.finished.items c.loop-worker.end c.load-drawn.result
     none some c.load-drawn.ensures.once c.load-drawn.ensures.within c.load-drawn.ensures.none_left (c.loop-worker.invariant.gathered begun looped)

@@ -3,6 +3,7 @@ use Rattle.std.proofs.Common.{reverse, subst}
 use Rattle.std.proofs.lemmas.List.{reverse-reverse}
 use Rattle.exchange.specs.Dialling.{failed_turns}
 use Rattle.exchange.specs.Worlds.{world_of}
+use Rattle.run_loop.specs.Moments.{TakesTimed}
 use Rattle.driver.specs.ManyWork.{IsManyRun, handed_in, handed_back}
 use Rattle.driver.proofs.many.running.carry_all.Goals as goal
 
@@ -21,5 +22,5 @@ returns-clause-runs g c =
     let handed = handed_in failures c.args.tools.items in
     let begun = reverse handed in
     let report = c.gather_work.result in
-    subst (λ l. IsManyRun world may_stop names job_at g.F.Results.took c.args.room.claim.jobs l (handed_back failures report.workers.items) report.end report.drawn) (reverse-reverse handed)
+    subst (λ l. IsManyRun world may_stop names job_at (TakesTimed (g.T.MicroClock.tells_micros c.args.timer.now) g.F.Results.took) c.args.room.claim.jobs l (handed_back failures report.workers.items) report.end report.drawn) (reverse-reverse handed)
     (c.gather_work.ensures.gathers begun (c.loop_at_once.ensures.looped begun c.hire_all.ensures.begun))

@@ -2,6 +2,7 @@
 use Rattle.std.proofs.Common.{rules, ◌≡◌, length, drop, slice_index_or, subst, sym}
 use Rattle.std.proofs.lemmas.List.{take_at}
 use Rattle.exchange.specs.Worlds.{world_of}
+use Rattle.run_loop.specs.Moments.{TakesTimed}
 use Rattle.driver.specs.ManyWork.{AllBegin, LoopsFrom, HaveLooped}
 use Rattle.driver.proofs.ManyWork.{all_loop}
 use Rattle.driver.proofs.many.running.loop_at_once.Goals as goal
@@ -12,7 +13,7 @@ returns-clause-looped g c =
     let world = world_of g.W.Wire.untouched g.W.Wire.happened (g.T.Clock.tells c.args.common.now.timer.now) in
     let may_stop = g.T.Timer.may_stop c.args.common.now.timer.now in
     let job_at = g.S.JobSource.job_at c.args.common.now.source.now in
-    let took = g.F.Results.took in
+    let took = TakesTimed (g.T.MicroClock.tells_micros c.args.common.now.timer.now) g.F.Results.took in
     let claim = c.args.common.now.claim.now in
     let new = c.for_each_mut.new.s in
     let old = c.deref_mut.result.now in

@@ -8,9 +8,9 @@ returns-in-Err-clause-refused g c = for_tools (vec_len c.args.tools) c.args.plac
 
 pub ran-requires-clause-room : goal.ran-requires-clause-room
 ran-requires-clause-room g c =
-    let same = as_many _ g.N.Names.names _ c.args.jobs _ _ c.args.tools.items c.in-Ok-run_many.report.workers.items _ _ c.in-Ok-run_many.ensures.ok in
+    let same = as_many _ _ _ g.N.Names.names _ c.args.jobs _ _ c.args.tools.items c.in-Ok-run_many.report.workers.items _ _ c.in-Ok-run_many.ensures.ok in
     omega (arith, same, c.requires.room)
 
 pub returns-in-Ok-run_many-clause-ok : goal.returns-in-Ok-run_many-clause-ok
 returns-in-Ok-run_many-clause-ok g c = λ hosts counting none uncounted.
-    if_carried_out _ g.N.Names.names _ c.args.jobs _ _ c.args.tools.items c.in-Ok-run_many.report.workers.items _ _ c.in-Ok-run_many.ensures.ok (λ own. refl) (λ own. (refl, refl)) c.args.collected c.ran.result hosts counting c.ran.ensures.collects c.ran.ensures.drawn none uncounted
+    if_carried_out _ _ _ g.N.Names.names _ c.args.jobs _ _ c.args.tools.items c.in-Ok-run_many.report.workers.items _ _ c.in-Ok-run_many.ensures.ok (λ own. refl) (λ own. (refl, refl)) c.args.collected c.ran.result hosts counting c.ran.ensures.collects c.ran.ensures.drawn c.ran.ensures.sound none uncounted

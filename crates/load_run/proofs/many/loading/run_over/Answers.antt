@@ -21,7 +21,7 @@ returns-clause-ok g c =
     let here : length tools.items ≡ vec_len tools = search rules in
     let left : vec_len tools ≡ min plan.connections (vec_len plan.addresses) = c.in-Ok-tools_for.ensures.number ∙ few_left plan.connections (vec_len plan.addresses) _ c.truncate.ensures.len in
     let many : length tools.items ≡ workers_of plan = here ∙ left ∙ ap (λ n. min plan.connections n) (sym given) in
-    has_run _ g.N.Names.names plan c.in-Some.source.urls.now c.in-Some.source.first.now c.args.jobs (length tools.items) c.carry_out.result c.in-Some.ensures.urls c.in-Some.source.some c.requires many
+    has_run _ _ _ g.N.Names.names plan c.in-Some.source.urls.now c.in-Some.source.first.now c.args.jobs (length tools.items) c.carry_out.result c.in-Some.ensures.urls c.in-Some.source.some c.requires many
     (c.carry_out.ensures.ok plan.hosts (counting_of plan) c.in_ok-collected.ensures.none c.in-Ok-tools_for.ensures.uncounted)
 
 pub returns-clause-refused : goal.returns-clause-refused

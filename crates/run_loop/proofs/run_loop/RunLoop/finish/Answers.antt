@@ -3,13 +3,14 @@ use Rattle.std.proofs.Common.{refl, subst, List, [], Option}
 use Rattle.exchange.specs.Transfers.{TransferShown}
 use Rattle.exchange.specs.Worlds.{world_of}
 use Rattle.run_loop.specs.Going.{rules_of, rules_at, point, RunsOn}
+use Rattle.run_loop.specs.Moments.{TakesTimed}
 use Rattle.run_loop.proofs.RunningOn.{runs_whole, may_close_from}
 use Rattle.run_loop.proofs.run_loop.RunLoop.finish.Goals as goal
 
 pub returns-clause-ends : goal.returns-clause-ends
 returns-clause-ends g c =
     let did = g.C.Cache.did in
-    let took = g.R.Results.took in
+    let took = TakesTimed (g.T.MicroClock.tells_micros c.args.timer.now) g.R.Results.took in
     let world = world_of g.W.Wire.untouched g.W.Wire.happened (g.T.Clock.tells c.args.timer.now) in
     let may_stop = g.T.Timer.may_stop c.args.timer.now in
     let job_at = g.J.Jobs.job_at in
