@@ -1,5 +1,5 @@
 -- How often intervals are folded.
-use Rattle.std.proofs.Common.{◌≡◌, ◌⊎◌, inl, inr, ℕ, zero, suc, ◌*◌, ◌/◌, ◌^◌, ◌<◌, ◌≤◌, Bool, refl, sym, ap, subst, ◌∙◌, arith}
+use Rattle.std.proofs.Common.{◌≡◌, ◌⊎◌, inl, inr, ℕ, zero, suc, ◌*◌, ◌/◌, ◌^◌, ◌<◌, ◌≤◌, Bool, Option, refl, sym, ap, subst, ◌∙◌, arith}
 use Rattle.load_figures.specs.Intervals.{IntervalLine, folded, folded_times, interval_at, joined_first, with_interval, with_job, CountsJob, JoinsLine}
 
 order : (m n : ℕ) → (m < n) ⊎ (n ≤ m)
@@ -27,7 +27,7 @@ folded_for_more ended old now new before late new_is = record {
   ];
 }
 
-pub counts_job : (has_failed : Bool) (ended latency : ℕ) (old now new : IntervalLine) → FoldedFor ended old now → ended / now.length_us < 600
+pub counts_job : (has_failed : Bool) (ended : ℕ) (latency : Option ℕ) (old now new : IntervalLine) → FoldedFor ended old now → ended / now.length_us < 600
     → new ≡ with_interval (ended / now.length_us) (with_job has_failed latency (interval_at now.items (ended / now.length_us))) now → CountsJob has_failed ended latency old new
 counts_job has_failed ended latency old now new folds there new_is = record {
   foldings = folds.foldings;

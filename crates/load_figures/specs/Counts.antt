@@ -63,27 +63,26 @@ abbrev pub more_if : Bool → ℕ → ℕ
 more_if true count = capped (count + 1)
 more_if false count = count
 
--- what the end of a job tells, beside its outcome
-abbrev pub with_end : Done → JobCounts → JobCounts
-with_end (Done.Good answer) counts = record counts {
+-- one more latency, if there are fewer than the greatest u64
+abbrev pub with_latency : ℕ → Tally → Tally
+with_latency latency tally = if nat_lt (values_in tally) (2 ^ 64 - 1) then recorded latency tally else tally
+
+-- the end of a job, beside its outcome: only a whole response has a latency
+abbrev pub with_end : Done → ℕ → JobCounts → JobCounts
+with_end (Done.Good answer) latency counts = record counts {
+  latencies = with_latency latency counts.latencies;
   retried = more_if answer.retried counts.retried;
   reused = more_if answer.reused counts.reused;
   bytes = capped (counts.bytes + answer.body_len);
   statuses = with_status answer.status counts.statuses;
 }
-with_end (Done.Bad fault) counts = record counts { faults = one_more_at (place_of fault) counts.faults }
-
--- one more latency, if there are fewer than the greatest u64
-abbrev pub with_latency : ℕ → Tally → Tally
-with_latency latency tally = if nat_lt (values_in tally) (2 ^ 64 - 1) then recorded latency tally else tally
+with_end (Done.Bad fault) latency counts = record counts { faults = one_more_at (place_of fault) counts.faults }
 
 -- one more job: a stopped one counts as such alone
 abbrev pub counted : Done → Outcome → ℕ → JobCounts → JobCounts
 counted done Outcome.Stopped latency counts = record counts { stopped = capped (counts.stopped + 1) }
-counted done Outcome.Good latency counts =
-    with_end done (record counts { good = capped (counts.good + 1); latencies = with_latency latency counts.latencies })
-counted done Outcome.Failed latency counts =
-    with_end done (record counts { failed = capped (counts.failed + 1); latencies = with_latency latency counts.latencies })
+counted done Outcome.Good latency counts = with_end done latency (record counts { good = capped (counts.good + 1) })
+counted done Outcome.Failed latency counts = with_end done latency (record counts { failed = capped (counts.failed + 1) })
 
 -- the latencies of both, if there are no more than the greatest u64
 abbrev pub both_latencies : Tally → Tally → Tally

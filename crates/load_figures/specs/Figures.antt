@@ -1,5 +1,5 @@
 -- What a worker of a load counts.
-use Rattle.std.specs.Prelude.{◌≡◌, ℕ, zero, suc, true, false, List, [], ◌∷◌, replicate}
+use Rattle.std.specs.Prelude.{◌≡◌, ℕ, zero, suc, true, false, List, [], ◌∷◌, Option, Some, None, replicate}
 use Rattle.exchange.specs.declared.done.Done.{Done}
 use Rattle.load_figures.specs.declared.job_counts.JobCounts.{JobCounts}
 use Rattle.load_figures.specs.declared.outcome.Outcome.{Outcome}
@@ -22,8 +22,13 @@ counted_at host done outcome latency [] = []
 counted_at zero done outcome latency (counts ∷ hosts) = counted done outcome latency counts ∷ hosts
 counted_at (suc host) done outcome latency (counts ∷ hosts) = counts ∷ counted_at host done outcome latency hosts
 
+-- only a whole response has a latency
+abbrev pub latency_of_end : Done → ℕ → Option ℕ
+latency_of_end (Done.Good answer) latency = Some latency
+latency_of_end (Done.Bad fault) latency = None
+
 -- a job counts in an interval if it was done
-abbrev pub CountsInIntervals : Outcome → ℕ → ℕ → IntervalLine → IntervalLine → Type 0
-CountsInIntervals Outcome.Good ended latency old new = CountsJob false ended latency old new
-CountsInIntervals Outcome.Failed ended latency old new = CountsJob true ended latency old new
-CountsInIntervals Outcome.Stopped ended latency old new = new ≡ old
+abbrev pub CountsInIntervals : Done → Outcome → ℕ → ℕ → IntervalLine → IntervalLine → Type 0
+CountsInIntervals done Outcome.Good ended latency old new = CountsJob false ended (latency_of_end done latency) old new
+CountsInIntervals done Outcome.Failed ended latency old new = CountsJob true ended (latency_of_end done latency) old new
+CountsInIntervals done Outcome.Stopped ended latency old new = new ≡ old

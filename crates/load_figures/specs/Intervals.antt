@@ -1,11 +1,11 @@
 -- What is counted in the intervals of a load.
-use Rattle.std.specs.Prelude.{◌≡◌, ◌≢◌, ℕ, zero, suc, ◌+◌, ◌-◌, ◌*◌, ◌/◌, ◌^◌, ◌<◌, ◌≤◌, max, min, Bool, List, [], ◌∷◌, length, replicate, slice_index, slice_index_or, slice_set, sum}
+use Rattle.std.specs.Prelude.{◌≡◌, ◌≢◌, ℕ, zero, suc, ◌+◌, ◌-◌, ◌*◌, ◌/◌, ◌^◌, ◌<◌, ◌≤◌, max, min, Bool, List, [], ◌∷◌, Option, Some, None, length, replicate, slice_index, slice_index_or, slice_set, sum}
 use Rattle.histogram.specs.Buckets.{bucket_of, highest_of}
 use Rattle.histogram.specs.Percentiles.{IsBucketAt}
 use Rattle.load_figures.specs.Counts.{capped, each_with, more_if}
 
--- what is counted in one interval: jobs done, those that failed, the greatest latency, and in slices of four buckets of
--- a histogram how many latencies fell into each
+-- what is counted in one interval: jobs done, those that failed, and of those with a whole response the greatest latency,
+-- and in slices of four buckets of a histogram how many latencies fell into each
 pub record IntervalCounts : Type 0 where
   pub requests : ℕ
   pub failed : ℕ
@@ -24,14 +24,20 @@ capped_slices count other = min (count + other) (2 ^ 32 - 1)
 abbrev pub slice_of : ℕ → ℕ
 slice_of latency = bucket_of (min latency (2 ^ 32 - 1)) / 4
 
--- one more job that was done
-abbrev pub with_job : Bool → ℕ → IntervalCounts → IntervalCounts
-with_job has_failed latency interval = record {
-  requests = capped (interval.requests + 1);
-  failed = more_if has_failed interval.failed;
+-- one more latency, if there is one
+abbrev pub with_latency : Option ℕ → IntervalCounts → IntervalCounts
+with_latency None interval = interval
+with_latency (Some latency) interval = record interval {
   greatest = max interval.greatest latency;
   slices = slice_set interval.slices (slice_of latency) (capped_slices (slice_index interval.slices (slice_of latency)) 1);
 }
+
+-- one more job that was done
+abbrev pub with_job : Bool → Option ℕ → IntervalCounts → IntervalCounts
+with_job has_failed latency interval = with_latency latency (record interval {
+  requests = capped (interval.requests + 1);
+  failed = more_if has_failed interval.failed;
+})
 
 -- the jobs of both
 abbrev pub both : IntervalCounts → IntervalCounts → IntervalCounts
@@ -84,7 +90,7 @@ abbrev pub with_interval : ℕ → IntervalCounts → IntervalLine → IntervalL
 with_interval place interval line = record line { items = slice_set line.items place interval }
 
 -- a job that ended then counts in its interval, after as many foldings as let it be one of 600
-pub record CountsJob (has_failed : Bool) (ended latency : ℕ) (old new : IntervalLine) : Type 0 where
+pub record CountsJob (has_failed : Bool) (ended : ℕ) (latency : Option ℕ) (old new : IntervalLine) : Type 0 where
   pub foldings : ℕ
   pub needed : (times : ℕ) → times < foldings → 600 ≤ ended / (folded_times times old).length_us
   pub enough : ended / (folded_times foldings old).length_us < 600

@@ -2,7 +2,8 @@
 
 ghost use Rattle.std.specs.Prelude.{◌≡◌, length, replicate, IfOk};
 ghost use Rattle.load_figures.specs.Counts.{counted, each_with, joined, no_job};
-ghost use Rattle.load_figures.specs.Figures.{counted_at, no_figures, CountsInIntervals};
+ghost use Rattle.load_figures.specs.Figures.{counted_at, latency_of_end, no_figures};
+ghost use Rattle.load_figures.specs.Figures.{CountsInIntervals};
 ghost use Rattle.load_figures.specs.Intervals.{JoinsLine};
 
 use crate::intervals::Intervals;
@@ -45,9 +46,9 @@ impl Figures {
     }
 
     /// Counts a job of that host, which ended so many microseconds after the load's start, or after
-    /// its warm-up if it has one. The outcome is that of [`outcome_of`](crate::outcome_of). The
-    /// latency of a job that was stopped is not looked at. A job of a host past the last is counted
-    /// among all jobs alone. It takes no memory.
+    /// its warm-up if it has one. The outcome is that of [`outcome_of`](crate::outcome_of). Only the
+    /// latency of a whole response is recorded. A job of a host past the last is counted among all
+    /// jobs alone. Takes no memory.
     pub fn count(
         &mut self,
         host: u32,
@@ -59,11 +60,12 @@ impl Figures {
         ensures all { self.new.all ≡ counted done.now outcome latency_us self.old.all }
         ensures hosts { self.new.hosts
             ≡ counted_at host done.now outcome latency_us self.old.hosts }
-        ensures intervals { CountsInIntervals outcome ended_us latency_us
+        ensures intervals { CountsInIntervals done.now outcome ended_us latency_us
             self.old.intervals self.new.intervals }
     {
         self.all.count(done, outcome, latency_us);
         count_at(&mut self.hosts, host, done, outcome, latency_us);
+        let latency_us = latency_of_end(done, latency_us);
         match outcome {
             Outcome::Good => self.intervals.count(false, ended_us, latency_us),
             Outcome::Failed => self.intervals.count(true, ended_us, latency_us),
@@ -114,6 +116,16 @@ fn no_jobs(alloc: Global, hosts: u32) -> Result<Vec<JobCounts>, AllocError>
         counts.push(host)?;
     }
     Ok(counts)
+}
+
+/// Returns the latency of a job that ended so: only a whole response has one.
+fn latency_of_end(done: &Done, latency_us: u64) -> Option<u64>
+    ensures { result ≡ latency_of_end done.now latency_us }
+{
+    match done {
+        Done::Good(_) => Some(latency_us),
+        Done::Bad(_) => None,
+    }
 }
 
 /// Counts a job of that host, if there is such a host.

@@ -63,14 +63,17 @@ impl Interval {
         })
     }
 
-    /// Counts a job that was done.
-    pub(crate) fn count(&mut self, has_failed: bool, latency_us: u64)
+    /// Counts a job that was done, and its latency if it has a whole response.
+    pub(crate) fn count(&mut self, has_failed: bool, latency_us: Option<u64>)
         ensures { self.new ≡ with_job has_failed latency_us self.old }
     {
         self.requests = self.requests.saturating_add(1);
         if has_failed {
             self.failed = self.failed.saturating_add(1);
         }
+        let Some(latency_us) = latency_us else {
+            return;
+        };
         self.greatest = self.greatest.max(latency_us);
         let slice = bucket_of(latency_us.min(GREATEST)) / BUCKETS_OF_A_SLICE;
         if slice < SLICES {
@@ -112,7 +115,7 @@ impl Interval {
         self.failed
     }
 
-    /// The greatest latency in microseconds, 0 if no job was done.
+    /// The greatest latency in microseconds, 0 if there is none.
     pub(crate) fn greatest(&self) -> u64
         ensures { result ≡ self.now.greatest }
     {
@@ -120,7 +123,7 @@ impl Interval {
     }
 
     /// The latency that so many hundredths of the jobs do not pass, in microseconds: the greatest
-    /// of its slice, or the greatest of all latencies if it is less. `None` if no job was done.
+    /// of its slice, or the greatest of all latencies if it is less. `None` if there is none.
     pub(crate) fn latency_at(&self, hundredths: u64) -> Option<u64>
         ensures { IfSome result (IsLatencyAt self.now hundredths) }
     {

@@ -50,7 +50,7 @@ impl Intervals {
     }
 
     /// Counts a job that was done, and ended so many microseconds after the load's start.
-    pub(crate) fn count(&mut self, has_failed: bool, ended_us: u64, latency_us: u64)
+    pub(crate) fn count(&mut self, has_failed: bool, ended_us: u64, latency_us: Option<u64>)
         ensures { CountsJob has_failed ended_us latency_us self.old self.new }
     {
         while ended_us / self.length_us() >= INTERVALS as u64 {
@@ -97,7 +97,7 @@ impl Intervals {
     }
 
     /// Counts a job in the interval at that place.
-    fn count_at(&mut self, place: usize, has_failed: bool, latency_us: u64)
+    fn count_at(&mut self, place: usize, has_failed: bool, latency_us: Option<u64>)
         requires { place < 600 }
         ensures { self.new ≡ with_interval place
             (with_job has_failed latency_us (interval_at self.old.items place)) self.old }

@@ -46,7 +46,7 @@ pub struct JobCounts {
     pub statuses: [u64; 5],
     /// Jobs without a whole response, by their fault.
     pub faults: [u64; 8],
-    /// Microseconds that the jobs done took, those that failed too.
+    /// Latencies of whole responses, in microseconds.
     pub latencies: Histogram,
 }
 
@@ -80,9 +80,8 @@ impl JobCounts {
             Outcome::Good => self.good = self.good.saturating_add(1),
             Outcome::Failed => self.failed = self.failed.saturating_add(1),
         }
-        record(&mut self.latencies, latency_us);
         match done {
-            Done::Good(answer) => self.count_answer(answer),
+            Done::Good(answer) => self.count_answer(answer, latency_us),
             Done::Bad(fault) => add_one(&mut self.faults, place_of(*fault)),
         }
     }
@@ -109,10 +108,11 @@ impl JobCounts {
         self.good.saturating_add(self.failed)
     }
 
-    /// Counts what a whole response tells.
-    fn count_answer(&mut self, answer: &Answer)
-        ensures { self.new ≡ with_end (Ends.Good answer.now) self.old }
+    /// Counts a whole response.
+    fn count_answer(&mut self, answer: &Answer, latency_us: u64)
+        ensures { self.new ≡ with_end (Ends.Good answer.now) latency_us self.old }
     {
+        record(&mut self.latencies, latency_us);
         if answer.retried {
             self.retried = self.retried.saturating_add(1);
         }

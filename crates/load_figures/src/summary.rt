@@ -41,8 +41,19 @@ fn write_rates<W: fmt::Write>(report: &LoadReport, f: &mut fmt::Formatter<W>) ->
     let elapsed = Time(elapsed_us);
     write!(
         f,
-        "requests     {request_rate} a second, {requests} in {elapsed}, {failed} failed\n"
+        "requests     {request_rate} a second, {requests} in {elapsed}, {failed} failed"
     )?;
+    let others = [
+        (report.run.missed, "missed"),
+        (report.jobs.stopped, "stopped"),
+        (report.jobs.retried, "retried"),
+    ];
+    for (count, name) in &others {
+        if *count > 0 {
+            write!(f, ", {count} {name}")?;
+        }
+    }
+    f.write_str("\n")?;
     write!(f, "bytes        {byte_rate} a second, {bytes} in all\n")
 }
 

@@ -116,8 +116,8 @@ const fn answer(status: u16, body_len: u64, reused: bool, retried: bool) -> Done
     })
 }
 
-/// Six jobs, the last of a host that is not there. The latencies that count are 100, 300, 500, 700
-/// and 900; 500 shares its bucket with 501.
+/// Six jobs, the last of a host that is not there. The latencies that count are 100, 300, 500 and
+/// 700, since only whole responses have one; 300 shares its bucket with 301.
 fn jobs() -> [Job; 6] {
     [
         (0, answer(200, 10, false, false), Outcome::Good, 50_000, 300),

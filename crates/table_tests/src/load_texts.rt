@@ -17,6 +17,7 @@ fn empty_report(alloc: Global) -> Result<LoadReport, AllocError> {
 struct Row {
     jobs: JobReport,
     elapsed_us: u64,
+    missed: u64,
     connections: Connections,
     waited_us: u64,
     text: &'static str,
@@ -55,6 +56,7 @@ static ROWS: [Row; 3] = [
             ..NO_JOB
         },
         elapsed_us: 5_000_000,
+        missed: 0,
         connections: Connections {
             opened: 4,
             reused: 12_341,
@@ -75,6 +77,7 @@ faults       none
     Row {
         jobs: NO_JOB,
         elapsed_us: 0,
+        missed: 0,
         connections: Connections {
             opened: 0,
             reused: 0,
@@ -97,6 +100,8 @@ faults       none
             requests: 5,
             good: 2,
             failed: 3,
+            stopped: 32,
+            retried: 1,
             bytes: 10,
             statuses: [0, 2, 0, 0, 2],
             faults: [0, 0, 0, 0, 1, 2, 0, 0],
@@ -111,6 +116,7 @@ faults       none
             ..NO_JOB
         },
         elapsed_us: 3_000_000,
+        missed: 969,
         connections: Connections {
             opened: 1,
             reused: 2,
@@ -120,7 +126,7 @@ faults       none
         },
         waited_us: 3_599_996_000,
         text: "\
-requests     1.7 a second, 5 in 3.00 s, 3 failed
+requests     1.7 a second, 5 in 3.00 s, 3 failed, 969 missed, 32 stopped, 1 retried
 bytes        3.3 a second, 10 in all
 latency      50% 99 us, 90% 0.10 ms, 99% 999.99 ms, 99.9% 1.00 s, greatest 61.00 s
 connections  1 opened, 2 reused, 3 closed, 4 waited 3600.00 s
@@ -138,6 +144,7 @@ fn the_summary_has_six_lines(rt: HostRuntime) {
         report.jobs = row.jobs;
         report.connections = row.connections;
         report.run.elapsed_us = row.elapsed_us;
+        report.run.missed = row.missed;
         report.run.waited_us = row.waited_us;
         let text = Summary(&report).to_string(alloc).expect(&rt, "memory");
         check_eq(&rt, text.as_str(), row.text);
@@ -181,17 +188,17 @@ const EMPTY: &str = "\
     \"3xx\":0,\"4xx\":0,\"5xx\":0},\"stopped\":0,\"urls\":[\"http://127.0.0.1:8080/a\",\
     \"http://[::1]:8081/b\"],\"version\":\"0.2.0\"}\n";
 
-/// The same of six jobs.
+/// The same of six jobs, of which the one without a whole response has no latency.
 const SIX: &str = "\
     {\"build\":\"proved\",\"bytes\":35,\"bytes_per_second\":70,\"connections\":{\"closed\":2,\"open\":2,\
     \"opened\":4,\"reused\":2,\"waited\":4,\"waited_us\":40800},\"elapsed_us\":500000,\
     \"failed\":2,\"faults\":{\"BadResponse\":0,\"Cancelled\":0,\"Cut\":1,\"Dial\":0,\
     \"Memory\":0,\"Read\":0,\"Refused\":0,\"Write\":0},\"good\":3,\"histogram\":[[100,1],[300,\
-    1],[500,1],[700,1],[900,1]],\"hosts\":[{\"bytes\":15,\"closed\":2,\"failed\":2,\
+    1],[500,1],[700,1]],\"hosts\":[{\"bytes\":15,\"closed\":2,\"failed\":2,\
     \"faults\":{\"BadResponse\":0,\"Cancelled\":0,\"Cut\":1,\"Dial\":0,\"Memory\":0,\
     \"Read\":0,\"Refused\":0,\"Write\":0},\"good\":1,\"host\":\"127.0.0.1:8080\",\
-    \"latency_us\":{\"max\":900,\"mean\":633,\"p50\":703,\"p90\":900,\"p99\":900,\
-    \"p999\":900},\"open\":1,\"opened\":3,\"requests\":3,\"retried\":1,\"reused\":1,\
+    \"latency_us\":{\"max\":700,\"mean\":500,\"p50\":301,\"p90\":700,\"p99\":700,\
+    \"p999\":700},\"open\":1,\"opened\":3,\"requests\":3,\"retried\":1,\"reused\":1,\
     \"statuses\":{\"1xx\":0,\"2xx\":1,\"3xx\":0,\"4xx\":0,\"5xx\":1},\"stopped\":0,\
     \"waited\":4},{\"bytes\":20,\"closed\":0,\"failed\":0,\"faults\":{\"BadResponse\":0,\
     \"Cancelled\":0,\"Cut\":0,\"Dial\":0,\"Memory\":0,\"Read\":0,\"Refused\":0,\"Write\":0},\
@@ -201,10 +208,10 @@ const SIX: &str = "\
     \"5xx\":0},\"stopped\":1,\"waited\":0}],\"intervals\":[{\"failed\":0,\"max_us\":300,\
     \"p50_us\":300,\"p99_us\":300,\"requests\":1,\"start_us\":0},{\"failed\":0,\"max_us\":500,\
     \"p50_us\":500,\"p99_us\":500,\"requests\":1,\"start_us\":100000},{\"failed\":2,\
-    \"max_us\":900,\"p50_us\":703,\"p99_us\":900,\"requests\":2,\"start_us\":200000},\
+    \"max_us\":700,\"p50_us\":700,\"p99_us\":700,\"requests\":2,\"start_us\":200000},\
     {\"failed\":0,\"max_us\":100,\"p50_us\":100,\"p99_us\":100,\"requests\":1,\
-    \"start_us\":300000}],\"latency_us\":{\"max\":900,\"mean\":500,\"p50\":501,\"p90\":900,\
-    \"p99\":900,\"p999\":900},\"missed\":6,\"options\":{},\"requests\":5,\
+    \"start_us\":300000}],\"latency_us\":{\"max\":700,\"mean\":400,\"p50\":301,\"p90\":700,\
+    \"p99\":700,\"p999\":700},\"missed\":6,\"options\":{},\"requests\":5,\
     \"requests_per_second\":10,\"retried\":1,\"statuses\":{\"1xx\":0,\"2xx\":2,\"3xx\":1,\
     \"4xx\":0,\"5xx\":1},\"stopped\":1,\"urls\":[\"http://127.0.0.1:8080/a\",\
     \"http://[::1]:8081/b\"],\"version\":\"0.2.0\"}\n";
