@@ -219,9 +219,10 @@ connections (and the time that requests waited for one, in total), statuses and
 faults. Without --seconds, the load ends after --jobs requests. The system looks
 a host name up, unless it is localhost, an address, or given by --resolve.
 Requests in flight when time is up are stopped, and count as neither done nor
-failed. --rate is the rate of all connections, and latency is timed from when a
-request was due. Figures include opening connections; a --warmup, which comes
-before the seconds, excludes it. --json has the summary's figures, and more.
+failed. --rate is the rate of all connections. Only whole responses have a
+latency, which is timed from when the request was due. Figures include opening
+connections; a --warmup, which comes before the seconds, excludes it. --json has
+the summary's figures, and more.
 
 Line of report      Its numbers in order
 host                For each site: its index; connections opened, reused and
@@ -245,10 +246,11 @@ cannot write        The report could not be written
 cannot write FILE: REASON
                     The trace or the picture could not be written
 unknown host NAME   A URL's host could not be resolved
+no good response    With any option after --trace above: no request succeeded
 
-Status              0: the report was written, whatever became of the requests;
-                    2: invalid command line, and nothing was done; 4: no report,
-                    or only part of it (run: .. says why); 5: more requests
+Status              0: the report was written; 2: invalid command line, and
+                    nothing was done; 4: no good response, no report, or part of
+                    the output is missing (run: .. says why); 5: more requests
                     failed than --fail-above allows; 130: Ctrl-C ended a load
                     with one of the options after --trace
 

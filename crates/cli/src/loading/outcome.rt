@@ -1,12 +1,52 @@
-//! What comes of a load.
+//! Outcomes of loads.
 
-/// What comes of a load that was carried out.
+ghost use Rattle.std.specs.Prelude.{◌≡◌, IfOk};
+
+use crate::loading::failure::LoadFailure;
+use std::alloc::{AllocError, Global};
+
+/// The status if a file was not written.
+const FAILED: u8 = 4;
+
+/// The outcome of a load that was carried out.
 #[derive(Debug, Drop)]
 pub struct LoadOutcome {
-    /// What is written on standard output: a report, or JSON.
+    /// The text for standard output: a report, or JSON.
     pub report: String,
-    /// What is told on standard error: nothing, a summary, or why there is no report.
+    /// The text for standard error: nothing, a summary, or the reason why the load failed.
     pub note: String,
     /// The status with which the program ends, if the report is written whole.
     pub status: u8,
+}
+
+impl LoadOutcome {
+    /// Returns the outcome after a file was written, or was not. A failure is added to the note, and
+    /// makes the status 4 unless it is another failure's already.
+    ///
+    /// # Errors
+    ///
+    /// There is no memory for the note.
+    pub(crate) fn after_write(
+        self,
+        alloc: Global,
+        written: Result<(), LoadFailure>,
+    ) -> Result<LoadOutcome, AllocError>
+        ensures { IfOk result (λ outcome. outcome.report ≡ self.report) }
+    {
+        let Err(failure) = written else {
+            return Ok(self);
+        };
+        let LoadOutcome {
+            report,
+            mut note,
+            status,
+        } = self;
+        let line = format!(in alloc; "run: {failure}\n")?;
+        note.push_str(line.as_str())?;
+        Ok(LoadOutcome {
+            report,
+            note,
+            status: if status == 0 { FAILED } else { status },
+        })
+    }
 }

@@ -31,13 +31,14 @@ use std::thread::{Builder, Threads, scope_env};
 /// Carries out a load over the system's threads and sockets, and gives its outcome. The requests go
 /// to the plan's URLs, or to a server of the load's own, which listens at one port of 127.0.0.1 for
 /// each site. The report says how the requests ended. If the plan names a file for the trace, the
-/// file is made before the requests, and the trace of the logs is written after them.
+/// file is made before the requests, and the trace of the logs is written after them. If it cannot
+/// be written, the outcome has the report all the same, and says so.
 ///
 /// `threads` and `system` are one runtime; `threads` is the one that may start threads.
 ///
 /// # Errors
 ///
-/// The reason why there is no report, with the name of a file that could not be written.
+/// The reason why there is no report, with the name of a file that could not be created.
 pub fn load_on_system<T: Threads + Wait + RandomSource + AllocGlobal + Sync>(
     threads: &T,
     system: &HostRuntime,
@@ -55,28 +56,23 @@ pub fn load_on_system<T: Threads + Wait + RandomSource + AllocGlobal + Sync>(
     match measured {
         None => {
             let traced = named_file(system, alloc, &trace)?;
-            let report = report_once(threads, system, alloc, options, traced)?;
-            Ok(LoadOutcome {
-                report,
-                note: String::new(alloc),
-                status: 0,
-            })
+            report_once(threads, system, alloc, options, traced)
         }
         Some(measured) => load_measured(threads, system, alloc, options, measured, &trace),
     }
 }
 
-// Carries out the jobs, one at a time on each thread, over a server of the load's own, and gives
-// their report.
+// Carries out the jobs, one at a time on each thread, over a server of the load's own, and returns
+// their outcome.
 fn report_once<T: Threads + Wait + RandomSource + AllocGlobal + Sync>(
     threads: &T,
     system: &HostRuntime,
     alloc: Global,
     options: LoadOptions,
     traced: Option<OutputFile<'_>>,
-) -> Result<String, LoadFailure>
+) -> Result<LoadOutcome, LoadFailure>
     requires counts { IfSome traced (λ output. output.file.failures ≡ 0) }
-    ensures { IfOk result (λ report. ReportsLoad options (string_bytes report)) }
+    ensures { IfOk result (λ outcome. ReportsLoad options (string_bytes outcome.report)) }
 {
     let server = match Server::listen(system, alloc, options.sites) {
         Ok(server) => server,
@@ -92,10 +88,18 @@ fn report_once<T: Threads + Wait + RandomSource + AllocGlobal + Sync>(
         return Err(OUT_OF_MEMORY.into());
     };
     let loaded = load_beside(threads, system, alloc, server, &sites, &jobs, options)?;
-    write_to(alloc, options, &ports, &loaded.logs, traced)?;
-    match report(alloc, &loaded.gathered, &loaded.results) {
-        Ok(text) => Ok(text),
-        Err(_refusal) => Err(OUT_OF_MEMORY.into()),
+    let Ok(text) = report(alloc, &loaded.gathered, &loaded.results) else {
+        return Err(OUT_OF_MEMORY.into());
+    };
+    let outcome = LoadOutcome {
+        report: text,
+        note: String::new(alloc),
+        status: 0,
+    };
+    let written = write_to(alloc, options, &ports, &loaded.logs, traced);
+    match outcome.after_write(alloc, written) {
+        Ok(outcome) => Ok(outcome),
+        Err(_) => Err(OUT_OF_MEMORY.into()),
     }
 }
 

@@ -25,6 +25,9 @@ use std::fmt::Write;
 /// The status if more jobs failed than may fail.
 const FAILED_ABOVE: u8 = 5;
 
+/// The status if no job has a good response.
+const NONE_GOOD: u8 = 4;
+
 /// Makes a load's outcome: its report, its note and its status.
 ///
 /// # Errors
@@ -98,21 +101,29 @@ fn try_outcome(
     } else {
         lines_of(alloc, loaded)?
     };
-    let note = if measured.flags.quiet {
-        String::new(alloc)
-    } else {
+    let mut note = String::new(alloc);
+    if !measured.flags.quiet {
         let summary = Summary(report);
-        format!(in alloc; "{summary}")?
-    };
-    let status = match measured.numbers.fail_above {
-        Some(hundredths) if fails_above(report, hundredths) => FAILED_ABOVE,
-        _ => 0,
-    };
+        note = format!(in alloc; "{summary}")?;
+    }
+    if report.jobs.good == 0 {
+        note.push_str("run: no good response\n")?;
+    }
+    let status = status_of(measured.numbers.fail_above, report);
     Ok(LoadOutcome {
         report: text,
         note,
         status,
     })
+}
+
+// The status of a load with that report.
+fn status_of(fail_above: Option<u32>, report: &LoadReport) -> u8 {
+    match fail_above {
+        Some(hundredths) if fails_above(report, hundredths) => FAILED_ABOVE,
+        _ if report.jobs.good == 0 => NONE_GOOD,
+        _ => 0,
+    }
 }
 
 // Makes the report: a line for each host, and a line for all jobs.

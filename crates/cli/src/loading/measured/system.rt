@@ -101,7 +101,7 @@ struct LoadFiles<'a> {
     pictured: Option<OutputFile<'a>>,
 }
 
-// Carries out a load of these jobs, once its files are made.
+// Carries out a load of these jobs. Its files are made once the addresses of its sites are known.
 fn load_sites<R: Threads + Wait + RandomSource + AllocGlobal + Sync>(
     rt: &R,
     system: &HostRuntime,
@@ -111,14 +111,15 @@ fn load_sites<R: Threads + Wait + RandomSource + AllocGlobal + Sync>(
     trace: &Option<String>,
     ports: &[u16],
 ) -> Result<LoadOutcome, LoadFailure> {
+    let sites = match LoadSites::of(system, alloc, &measured.jobs, &measured.resolved) {
+        Ok(sites) => sites,
+        Err(SiteFault::Memory) => return Err(OUT_OF_MEMORY.into()),
+        Err(SiteFault::Unknown(host)) => return unknown(alloc, host),
+    };
     let traced = named_file(system, alloc, trace)?;
     let pictured = named_file(system, alloc, &measured.picture)?;
     let files = LoadFiles { traced, pictured };
-    match LoadSites::of(system, alloc, &measured.jobs, &measured.resolved) {
-        Ok(sites) => load_at(rt, system, alloc, options, measured, &sites, files, ports),
-        Err(SiteFault::Memory) => Err(OUT_OF_MEMORY.into()),
-        Err(SiteFault::Unknown(host)) => unknown(alloc, host),
-    }
+    load_at(rt, system, alloc, options, measured, &sites, files, ports)
 }
 
 // Carries out the jobs at their sites, and writes the files.
@@ -151,7 +152,7 @@ fn load_at<R: Threads + Wait + RandomSource + AllocGlobal + Sync>(
     Ok(outcome)
 }
 
-// Writes the files of a load that was carried out, and tells its outcome.
+// Makes the outcome of a load that was carried out, and writes its files.
 fn written(
     alloc: Global,
     options: LoadOptions,
@@ -169,10 +170,12 @@ fn written(
         return Err(LoadFault::Load(LoadError::Gather).into());
     }
     let LoadFiles { traced, pictured } = files;
-    write_to(alloc, options, ports, &loaded.logs, traced)?;
     let report = report_of_load(alloc, options, measured, sites, loaded)?;
-    write_picture(alloc, &report, pictured)?;
-    Ok(outcome_of(alloc, measured, &report, loaded)?)
+    let outcome = outcome_of(alloc, measured, &report, loaded)?;
+    let trace = write_to(alloc, options, ports, &loaded.logs, traced);
+    let picture = write_picture(alloc, &report, pictured);
+    let outcome = outcome.after_write(alloc, trace)?;
+    Ok(outcome.after_write(alloc, picture)?)
 }
 
 // The outcome if the system does not know a host.

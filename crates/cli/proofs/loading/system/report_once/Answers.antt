@@ -1,4 +1,4 @@
-use Rattle.std.proofs.Common.{◌≡◌, ◌∙◌, ℕ, List, ap, length, subst}
+use Rattle.std.proofs.Common.{◌≡◌, ◌∙◌, ℕ, List, ap, length, string_bytes, subst}
 use Rattle.exchange.specs.declared.done.Done.{Done}
 use Rattle.exchange.specs.declared.job.Job.{Job}
 use Rattle.cache_report.specs.Report.{report_text}
@@ -6,8 +6,8 @@ use Rattle.cli.specs.LoadJobs.{AreLoadJobs}
 use Rattle.cli.specs.SystemLoads.{CarriesOutLoad}
 use Rattle.cli.proofs.loading.system.report_once.Goals as goal
 
-pub returns-in-Ok-report : goal.returns-in-Ok-report
-returns-in-Ok-report g c =
+pub returns-in-Ok-after_write : goal.returns-in-Ok-after_write
+returns-in-Ok-after_write g c =
     let ports = c.in-Ok.server in
     let jobs = c.in-Ok-load_jobs.jobs.items in
     let loaded = c.in_ok-loaded.loaded in
@@ -21,5 +21,5 @@ returns-in-Ok-report g c =
       as_many = c.in-Ok-load_jobs.ensures.count;
       is_loaded = subst (λ (count : ℕ). CarriesOutLoad c.args.options count jobs loaded) hosts
           (subst (λ (given : List Job). CarriesOutLoad c.args.options (length c.deref.result.now) given loaded) c.deref-2.ensures.value c.in_ok-loaded.ensures);
-      report_is = c.in-Ok-report.ensures.text ∙ ap (λ (results : List Done). report_text loaded.gathered.hosts.items results) c.deref-5.ensures.value;
+      report_is = ap string_bytes c.in-Ok-after_write.ensures ∙ c.in-Ok-report.ensures.text ∙ ap (λ (results : List Done). report_text loaded.gathered.hosts.items results) c.deref-3.ensures.value;
     }
