@@ -113,9 +113,9 @@ def crowd_of_jobs(crowd, server):
     number = 7
     run = programs.load(["--url", f"http://127.0.0.1:{server.port}/{number}", "--jobs", str(crowd.requests),
                          "--connections", str(AT_ONCE), "--timeout", "1", "--json", "--quiet"])
-    if run.status != 0:
+    told = json.loads(run.output or "{}")
+    if not told or run.status != (0 if told["good"] else 4):
         return f"status {run.status}, {run.errors[-200:]!r}"
-    told = json.loads(run.output)
     if told["good"] + told["failed"] != crowd.requests or told["requests"] != crowd.requests:
         return f"{told['good']} good, {told['failed']} failed of {crowd.requests}"
     if told["bytes"] != number * told["good"] or told["statuses"]["2xx"] != told["good"]:

@@ -1,0 +1,185 @@
+"""What is late is not lost: a program that was stopped, a reader that blocks, Ctrl-C at the end of a load, an outage.
+
+An answer that came in time counts, however late the program gets to read it.
+"""
+import contextlib
+import os
+import re
+import signal
+import subprocess
+import tempfile
+import time
+from subprocess import DEVNULL, PIPE
+
+from program import launched
+
+from . import programs, servers
+from .servers import Server, nobody
+
+SECONDS = 60
+# a pipe takes some 64 KiB, which is 1,500 lines: at 64 at once, each of which takes 0.05 seconds, it is full after two
+MANY = 4_000
+BLOCKED = 5
+INTERRUPTED = 130
+
+
+def started(words, **streams):
+    return subprocess.Popen(words, stdin=DEVNULL, stderr=PIPE, encoding="utf8", errors="replace", start_new_session=True,
+                            **streams)
+
+
+@contextlib.contextmanager
+def running(words, **streams):
+    run = started(words, **streams)
+    try:
+        yield run
+    finally:
+        programs.end(run)
+
+
+def as_started():
+    """The words that start the program as ./curlpool does, which watches for Ctrl-C."""
+    return launched(programs.curlpool()) if "PROGRAM" in os.environ else [programs.curlpool()]
+
+
+class Delay:
+    """A case with a name, and a function that gives what is wrong, or nothing."""
+
+    def __init__(self, name, complaint):
+        self.name, self.complaint = name, complaint
+
+    def needs_nginx(self):
+        return False
+
+    def run(self, _ports):
+        """How it ended, and what there is to say of it."""
+        began = time.monotonic()
+        # ./curlpool may have to compile the program first
+        programs.load(["--help"])
+        found = self.complaint()
+        return ("failed", found) if found else ("passed", f"{time.monotonic() - began:.1f} seconds")
+
+
+def blocked_reader():
+    """A crawl whose output nobody reads for some seconds, which are longer than the time limit."""
+    with Server(servers.takes(0.05)) as server, tempfile.NamedTemporaryFile("w", encoding="utf8", suffix=".urls") as file:
+        file.write("".join(f"http://127.0.0.1:{server.port}/{number}\n" for number in range(1, MANY + 1)))
+        file.flush()
+        words = ["get", "--parallel", "64", "--timeout", "1", "--file", file.name]
+        with running([programs.curlpool(), *words], stdout=PIPE) as run:
+            time.sleep(BLOCKED)
+            output, errors = run.communicate(timeout=SECONDS)
+    lines = output.splitlines()
+    cancelled = sum(line.startswith("Cancelled") for line in lines)
+    if run.returncode != 0 or len(lines) != MANY:
+        return f"{len(lines)} lines, {cancelled} of them Cancelled; status {run.returncode}, {errors[-200:]!r}"
+    return None
+
+
+def stopped_load():
+    """A load that the system stops for longer than its time limit."""
+    with Server(servers.takes(0.1)) as server:
+        words = ["load", "--url", f"http://127.0.0.1:{server.port}/7", "--seconds", "6", "--timeout", "1",
+                 "--connections", "16", "--workers", "2", "--quiet"]
+        with running([programs.curlpool(), *words], stdout=PIPE) as run:
+            time.sleep(1)
+            os.killpg(run.pid, signal.SIGSTOP)
+            time.sleep(2)
+            os.killpg(run.pid, signal.SIGCONT)
+            output, errors = run.communicate(timeout=SECONDS)
+    jobs = output.splitlines()[-1].split()
+    if run.returncode != 0 or jobs[2] != "0":
+        return f"{jobs}; status {run.returncode}, {errors[-200:]!r}"
+    return None
+
+
+def late_interrupt():
+    """Ctrl-C once all workers but one have ended: seven jobs are done at once, and the last is never answered."""
+    with Server(servers.hangs_up_to(1)) as server:
+        urls = [f"http://127.0.0.1:{server.port}/{number}" for number in (2, 3, 4, 5, 6, 7, 8, 1)]
+        words = ["load", *(word for url in urls for word in ("--url", url)), "--jobs", "8", "--workers", "8",
+                 "--connections", "8", "--timeout", "50"]
+        with running([*as_started(), *words], stdout=PIPE) as run:
+            time.sleep(1)
+            began = time.monotonic()
+            os.killpg(run.pid, signal.SIGINT)
+            _, errors = run.communicate(timeout=SECONDS)
+    took = time.monotonic() - began
+    if run.returncode != INTERRUPTED or took > 5:
+        return f"status {run.returncode} after {took:.1f} seconds, {errors[-200:]!r}"
+    return None
+
+
+def outage():
+    """A server that stops answering: what is under way at the end, and what was not begun, stands in the summary."""
+    answered = 50
+    with Server(stops_after(answered)) as server:
+        run = programs.load(["--url", f"http://127.0.0.1:{server.port}/7", "--seconds", "2", "--rate", "200",
+                             "--connections", "4", "--workers", "1"])
+    first = run.errors.splitlines()[0]
+    found = re.fullmatch(r"requests .*, 0 failed, (\d+) missed, 4 stopped", first)
+    # 400 were due, of which 54 began; on a busy machine the load may take longer
+    if run.status != 0 or not found or int(found[1]) < 300:
+        return f"`{first}`; status {run.status}"
+    return None
+
+
+def stops_after(count):
+    """Answers so many requests over all connections, and then none."""
+    answered = []
+
+    def behave(connection):
+        for request in connection.requests():
+            if len(answered) < count:
+                answered.append(request)
+                connection.send(servers.counted(request.number))
+    return behave
+
+
+def nobody_listens():
+    """A load without one good response fails."""
+    with nobody() as port:
+        run = programs.load(["--url", f"http://127.0.0.1:{port}/", "--jobs", "3", "--quiet"])
+        strict = programs.load(["--url", f"http://127.0.0.1:{port}/", "--jobs", "3", "--quiet", "--fail-above", "50"])
+    if (run.status, run.errors, strict.status) != (4, "run: no good response\n", 5):
+        return f"status {run.status}, {run.errors!r}; with --fail-above {strict.status}"
+    return None
+
+
+def unwritten_picture():
+    """A picture that cannot be written costs no report, and an unknown name makes no file."""
+    with Server(servers.lasts) as server:
+        url = f"http://127.0.0.1:{server.port}/7"
+        run = programs.load(["--url", url, "--jobs", "3", "--workers", "1", "--quiet", "--picture", "/dev/full"])
+    said = "run: cannot write /dev/full: No space left on device\n"
+    if (run.status, run.errors) != (4, said) or not run.output.endswith("jobs       3       0       2       0      21\n"):
+        return f"status {run.status}, {run.output[-60:]!r}, {run.errors!r}"
+    with tempfile.TemporaryDirectory() as folder:
+        picture = os.path.join(folder, "load.svg")
+        run = programs.load(["--url", "http://no-such-host.invalid/", "--jobs", "3", "--picture", picture])
+        if run.status != 4 or os.path.exists(picture):
+            return f"status {run.status}, and a picture of an unknown host" if os.path.exists(picture) else f"{run}"
+    return None
+
+
+def foreign_descriptor():
+    """A pipe at descriptor 3 that is not the launcher's ends no load."""
+    ours, theirs = os.pipe()
+    os.close(theirs)
+    try:
+        with running([programs.curlpool(), "load", "--seconds", "2", "--quiet"], stdout=PIPE, pass_fds=(3,),
+                     preexec_fn=lambda: os.dup2(ours, 3)) as run:
+            _, errors = run.communicate(timeout=SECONDS)
+    finally:
+        os.close(ours)
+    return f"status {run.returncode}, {errors[-200:]!r}" if run.returncode else None
+
+
+def all_delays():
+    yield Delay("get --parallel: nobody reads the output for longer than the time limit", blocked_reader)
+    yield Delay("load: the program is stopped for longer than the time limit", stopped_load)
+    yield Delay("load: Ctrl-C once only the last request is under way", late_interrupt)
+    yield Delay("load: the server stops answering", outage)
+    yield Delay("load: nobody listens", nobody_listens)
+    yield Delay("load: a picture that cannot be written", unwritten_picture)
+    yield Delay("load: a pipe at descriptor 3", foreign_descriptor)
