@@ -104,13 +104,14 @@ def wrong_get(run, ample, urls):
 
 
 def wrong_load(run, _):
-    """What is wrong with a run of load, or nothing."""
+    """What is wrong with a run of load, or nothing. Without memory for the trace it has its report, and says so."""
+    lines = run.output.decode().splitlines()
+    is_report = [line.split()[0] for line in lines] == ["host", "host", "all", "jobs"] and adds_up(lines)
     if run.status == 0:
-        lines = run.output.decode().splitlines()
-        is_report = [line.split()[0] for line in lines] == ["host", "host", "all", "jobs"] and not run.errors
-        return None if is_report and adds_up(lines) else f"status 0, {run.output!r}, {run.errors!r}"
-    is_told = run.status == 4 and not run.output and run.errors in REFUSED_LOADS
-    return None if is_told else f"status {run.status}, {run.output!r}, {run.errors!r}"
+        is_right = is_report and not run.errors
+    else:
+        is_right = run.status == 4 and (is_report or not run.output) and run.errors in REFUSED_LOADS
+    return None if is_right else f"status {run.status}, {run.output!r}, {run.errors!r}"
 
 
 REFUSED_LOADS = (b"run: out of memory\n", b"run: cannot listen\n", b"run: cannot start thread\n")

@@ -204,10 +204,12 @@ def load_output():
 
 
 def load_trace():
-    """Without a trace there is no report; the file is created before the load."""
-    words = [curlpool(), "load", "--sites", "1", "--jobs", "3", "--workers", "1", "--trace"]
+    """A file that can't be created ends the program before the load; one that is full, after the report."""
+    words = [curlpool(), "load", "--sites", "1", "--jobs", "3", "--workers", "1"]
+    report = run(words).output
     for name, reason in UNWRITABLE.items():
-        check_same(run([*words, name]), (4, "", f"run: cannot write {name}: {reason}\n"), name)
+        output = report if name == "/dev/full" else ""
+        check_same(run([*words, "--trace", name]), (4, output, f"run: cannot write {name}: {reason}\n"), name)
     return "status 4, `cannot write` with name and reason"
 
 
