@@ -10,8 +10,8 @@ watches() {
     done
     return 1
 }
-# Runs such a load. The first Ctrl-C closes the pipe whose other end is the program's descriptor 3, as CURLPOOL_INTERRUPT says,
-# so that the load ends with all its output; a second one ends the program at once.
+# Runs such a load. The program's descriptor 3, as CURLPOOL_INTERRUPT says, is a pipe whose other end the first Ctrl-C
+# closes, so that the load ends with all its output. A second Ctrl-C ends the program at once.
 load() {
     room=$(mktemp -d)
     mkfifo "$room/pipe"

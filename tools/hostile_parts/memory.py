@@ -104,7 +104,7 @@ def wrong_get(run, ample, urls):
 
 
 def wrong_load(run, _):
-    """What is wrong with a run of load, or nothing. Without memory for the trace it has its report, and says so."""
+    """What is wrong with a run of load, or nothing. If memory runs out for the trace alone, it prints its report too."""
     lines = run.output.decode().splitlines()
     is_report = [line.split()[0] for line in lines] == ["host", "host", "all", "jobs"] and adds_up(lines)
     if run.status == 0:

@@ -106,7 +106,7 @@ def load_by_launcher(words):
 
 
 def load_with_pipe(words):
-    """The program alone: the descriptor that CURLPOOL_INTERRUPT names is a pipe whose other end is closed then."""
+    """Without the launcher: CURLPOOL_INTERRUPT names a pipe, whose other end is then closed."""
     ours, theirs = os.pipe()
     try:
         with running([curlpool(), *words], stdin=subprocess.DEVNULL, pass_fds=(ours,),

@@ -1,40 +1,25 @@
-"""What is late is not lost: a program that was stopped, a reader that blocks, Ctrl-C at the end of a load, an outage.
+"""Delays and failures of a run: a suspended program, a reader that blocks, Ctrl-C, an outage, files that cannot be written.
 
-An answer that came in time counts, however late the program gets to read it.
+A response that arrived within the time limit counts, even if the program reads it later.
 """
-import contextlib
 import os
 import re
 import signal
 import subprocess
 import tempfile
 import time
-from subprocess import DEVNULL, PIPE
 
 from program import launched
 
 from . import programs, servers
+from .programs import running
 from .servers import Server, nobody
 
 SECONDS = 60
-# a pipe takes some 64 KiB, which is 1,500 lines: at 64 at once, each of which takes 0.05 seconds, it is full after two
+# a pipe holds 64 KiB, some 1,500 lines: with 64 requests in flight of 0.05 seconds each, it is full after two seconds
 MANY = 4_000
 BLOCKED = 5
 INTERRUPTED = 130
-
-
-def started(words, **streams):
-    return subprocess.Popen(words, stdin=DEVNULL, stderr=PIPE, encoding="utf8", errors="replace", start_new_session=True,
-                            **streams)
-
-
-@contextlib.contextmanager
-def running(words, **streams):
-    run = started(words, **streams)
-    try:
-        yield run
-    finally:
-        programs.end(run)
 
 
 def as_started():
@@ -43,7 +28,7 @@ def as_started():
 
 
 class Delay:
-    """A case with a name, and a function that gives what is wrong, or nothing."""
+    """A case: its name, and a function that returns what is wrong, or nothing."""
 
     def __init__(self, name, complaint):
         self.name, self.complaint = name, complaint
@@ -52,7 +37,7 @@ class Delay:
         return False
 
     def run(self, _ports):
-        """How it ended, and what there is to say of it."""
+        """Returns how it ended, and a remark."""
         began = time.monotonic()
         # ./curlpool may have to compile the program first
         programs.load(["--help"])
@@ -61,12 +46,12 @@ class Delay:
 
 
 def blocked_reader():
-    """A crawl whose output nobody reads for some seconds, which are longer than the time limit."""
+    """A crawl whose output is not read for longer than the time limit."""
     with Server(servers.takes(0.05)) as server, tempfile.NamedTemporaryFile("w", encoding="utf8", suffix=".urls") as file:
         file.write("".join(f"http://127.0.0.1:{server.port}/{number}\n" for number in range(1, MANY + 1)))
         file.flush()
         words = ["get", "--parallel", "64", "--timeout", "1", "--file", file.name]
-        with running([programs.curlpool(), *words], stdout=PIPE) as run:
+        with running([programs.curlpool(), *words]) as run:
             time.sleep(BLOCKED)
             output, errors = run.communicate(timeout=SECONDS)
     lines = output.splitlines()
@@ -77,11 +62,11 @@ def blocked_reader():
 
 
 def stopped_load():
-    """A load that the system stops for longer than its time limit."""
+    """A load that is suspended for longer than its time limit."""
     with Server(servers.takes(0.1)) as server:
         words = ["load", "--url", f"http://127.0.0.1:{server.port}/7", "--seconds", "6", "--timeout", "1",
                  "--connections", "16", "--workers", "2", "--quiet"]
-        with running([programs.curlpool(), *words], stdout=PIPE) as run:
+        with running([programs.curlpool(), *words]) as run:
             time.sleep(1)
             os.killpg(run.pid, signal.SIGSTOP)
             time.sleep(2)
@@ -94,12 +79,12 @@ def stopped_load():
 
 
 def late_interrupt():
-    """Ctrl-C once all workers but one have ended: seven jobs are done at once, and the last is never answered."""
+    """Ctrl-C after all workers but one have ended: seven requests are answered, and the last one never is."""
     with Server(servers.hangs_up_to(1)) as server:
         urls = [f"http://127.0.0.1:{server.port}/{number}" for number in (2, 3, 4, 5, 6, 7, 8, 1)]
         words = ["load", *(word for url in urls for word in ("--url", url)), "--jobs", "8", "--workers", "8",
                  "--connections", "8", "--timeout", "50"]
-        with running([*as_started(), *words], stdout=PIPE) as run:
+        with running([*as_started(), *words]) as run:
             time.sleep(1)
             began = time.monotonic()
             os.killpg(run.pid, signal.SIGINT)
@@ -111,21 +96,21 @@ def late_interrupt():
 
 
 def outage():
-    """A server that stops answering: what is under way at the end, and what was not begun, stands in the summary."""
+    """A server that stops answering: the summary has the requests in flight at the end, and those never begun."""
     answered = 50
     with Server(stops_after(answered)) as server:
         run = programs.load(["--url", f"http://127.0.0.1:{server.port}/7", "--seconds", "2", "--rate", "200",
                              "--connections", "4", "--workers", "1"])
     first = run.errors.splitlines()[0]
     found = re.fullmatch(r"requests .*, 0 failed, (\d+) missed, 4 stopped", first)
-    # 400 were due, of which 54 began; on a busy machine the load may take longer
+    # 400 were due, and 54 began; a busy machine may take longer
     if run.status != 0 or not found or int(found[1]) < 300:
         return f"`{first}`; status {run.status}"
     return None
 
 
 def stops_after(count):
-    """Answers so many requests over all connections, and then none."""
+    """Answers `count` requests over all connections, and then none."""
     answered = []
 
     def behave(connection):
@@ -147,7 +132,7 @@ def nobody_listens():
 
 
 def unwritten_picture():
-    """A picture that cannot be written costs no report, and an unknown name makes no file."""
+    """A load prints its report even if its picture cannot be written, and creates no file for an unknown host."""
     with Server(servers.lasts) as server:
         url = f"http://127.0.0.1:{server.port}/7"
         run = programs.load(["--url", url, "--jobs", "3", "--workers", "1", "--quiet", "--picture", "/dev/full"])
@@ -163,11 +148,11 @@ def unwritten_picture():
 
 
 def foreign_descriptor():
-    """A pipe at descriptor 3 that is not the launcher's ends no load."""
+    """A closed pipe at descriptor 3 that is not the launcher's does not end a load."""
     ours, theirs = os.pipe()
     os.close(theirs)
     try:
-        with running([programs.curlpool(), "load", "--seconds", "2", "--quiet"], stdout=PIPE, pass_fds=(3,),
+        with running([programs.curlpool(), "load", "--seconds", "2", "--quiet"], pass_fds=(3,),
                      preexec_fn=lambda: os.dup2(ours, 3)) as run:
             _, errors = run.communicate(timeout=SECONDS)
     finally:
@@ -176,9 +161,9 @@ def foreign_descriptor():
 
 
 def all_delays():
-    yield Delay("get --parallel: nobody reads the output for longer than the time limit", blocked_reader)
-    yield Delay("load: the program is stopped for longer than the time limit", stopped_load)
-    yield Delay("load: Ctrl-C once only the last request is under way", late_interrupt)
+    yield Delay("get --parallel: its output is not read for longer than the time limit", blocked_reader)
+    yield Delay("load: suspended for longer than the time limit", stopped_load)
+    yield Delay("load: Ctrl-C while only the last request is in flight", late_interrupt)
     yield Delay("load: the server stops answering", outage)
     yield Delay("load: nobody listens", nobody_listens)
     yield Delay("load: a picture that cannot be written", unwritten_picture)

@@ -1,4 +1,5 @@
 """The programs that real-servers tries: where they are, and what a run of them gave."""
+import contextlib
 import os
 import signal
 import subprocess
@@ -39,17 +40,25 @@ def end(started):
         started.wait()
 
 
-def run(words, seconds=SECONDS):
-    """Runs a command, for so long at most."""
+@contextlib.contextmanager
+def running(words, **others):
+    """Starts a command in a group of its own, and ends it with the block."""
     started = subprocess.Popen(words, stdin=DEVNULL, stdout=PIPE, stderr=PIPE, encoding="utf8", errors="replace",
-                               start_new_session=True)
+                               start_new_session=True, **others)
     try:
-        output, errors = started.communicate(timeout=seconds)
-        return Run(started.returncode, output, errors)
-    except subprocess.TimeoutExpired:
-        return Run(None, "", f"it did not end within {seconds} seconds")
+        yield started
     finally:
         end(started)
+
+
+def run(words, seconds=SECONDS):
+    """Runs a command, for at most that many seconds."""
+    with running(words) as started:
+        try:
+            output, errors = started.communicate(timeout=seconds)
+            return Run(started.returncode, output, errors)
+        except subprocess.TimeoutExpired:
+            return Run(None, "", f"it did not end within {seconds} seconds")
 
 
 def get(words):
