@@ -109,6 +109,16 @@ def outage():
     return None
 
 
+def end_of_a_rate():
+    """A load at a rate: the third request is due at the end, and does not begin."""
+    with Server(servers.lasts) as server:
+        run = programs.load(["--url", f"http://127.0.0.1:{server.port}/7", "--seconds", "2", "--rate", "1"])
+    first = run.errors.splitlines()[0]
+    if run.status != 0 or not re.fullmatch(r"requests .*, 2 in \S+ s, 0 failed", first):
+        return f"`{first}`; status {run.status}"
+    return None
+
+
 def stops_after(count):
     """Answers `count` requests over all connections, and then none."""
     answered = []
@@ -165,6 +175,7 @@ def all_delays():
     yield Delay("load: suspended for longer than the time limit", stopped_load)
     yield Delay("load: Ctrl-C while only the last request is in flight", late_interrupt)
     yield Delay("load: the server stops answering", outage)
+    yield Delay("load: a request is due at the end", end_of_a_rate)
     yield Delay("load: nobody listens", nobody_listens)
     yield Delay("load: a picture that cannot be written", unwritten_picture)
     yield Delay("load: a pipe at descriptor 3", foreign_descriptor)

@@ -227,7 +227,8 @@ impl<W: Wire> RunLoop<W> {
     /// Carries on with what is under way, and with the jobs that it draws, until no job is left, or
     /// the timer or a fault ends the run; `until` is what it waits for once no job is left. What is
     /// under way stays so: another call carries on with it, beside other jobs if need be. What has
-    /// arrived since the last call is read before the timer stops a job.
+    /// arrived since the last call is read before the timer stops a job. A job that is due at the
+    /// moment at which the run ends does not begin.
     ///
     /// Requires: each transfer in it is in a state that the wires and the clock can have led to, and
     /// the jobs began at moments that the timer told.
@@ -270,14 +271,14 @@ impl<W: Wire> RunLoop<W> {
                     return RunEnd::Complete;
                 }
             }
+            if let Turned::Fault = self.rest(dial, timer, next) {
+                return RunEnd::TurnFailed;
+            }
             if timer.is_over() {
                 return RunEnd::Stopped;
             }
             if timer.is_broken_off() {
                 return RunEnd::BrokenOff;
-            }
-            if let Turned::Fault = self.rest(dial, timer, next) {
-                return RunEnd::TurnFailed;
             }
             next = self.take_round(cache, dial, jobs, results, timer);
         }
