@@ -31,8 +31,8 @@ module _ {D : Type 0} (back : Finished D CountedResults → CountedResults × �
   passes_back [] = refl
   passes_back (own ∷ others) = ap₂ (λ (x : Accounts) (l : List Accounts). x ∷ l) (back_is own).1 (passes_back others)
 
-module _ {W D : Type 0} (world : World W) (may_stop moments : ℕ → Type 0) (names : CacheNames) (job_at : ℕ → Job) (jobs : ℕ) (begin : Tools D CountedResults → CountedResults × ℕ) (back : Finished D CountedResults → CountedResults × ℕ × Accounts)
-    (tools : List (Tools D CountedResults)) (workers : List (Finished D CountedResults)) (end : RunEnd) (drawn : ℕ) (ran : IsManyRun world may_stop names job_at (TakesTimed moments Takes) jobs (map begin tools) (map back workers) end drawn) where
+module _ {W D : Type 0} (world : World W) (may_stop is_reading : ℕ → Type 0) (names : CacheNames) (job_at : ℕ → Job) (jobs : ℕ) (begin : Tools D CountedResults → CountedResults × ℕ) (back : Finished D CountedResults → CountedResults × ℕ × Accounts)
+    (tools : List (Tools D CountedResults)) (workers : List (Finished D CountedResults)) (end : RunEnd) (drawn : ℕ) (ran : IsManyRun world may_stop names job_at (TakesTimed is_reading Takes) jobs (map begin tools) (map back workers) end drawn) where
   -- each of the tools comes back
   pub as_many : length workers ≡ length tools
   as_many =
@@ -42,14 +42,14 @@ module _ {W D : Type 0} (world : World W) (may_stop moments : ℕ → Type 0) (n
 
   module _ (begin_is : (own : Tools D CountedResults) → (begin own).0 ≡ own.results) (back_is : (own : Finished D CountedResults) → ((back own).0 ≡ own.results) × ((back own).2 ≡ own.pass)) where
     has_carried_out : (old new : Collected) (told hosts : ℕ) (counting : Counting) → Collects old new workers → told ≡ drawn → is_fault end ≡ false → IsNone hosts old → All (λ (own : Tools D CountedResults). IsUncounted hosts counting own.results) tools
-        → HasCarriedOut world may_stop moments names job_at jobs (length tools) hosts counting new told
+        → HasCarriedOut world may_stop is_reading names job_at jobs (length tools) hosts counting new told
     has_carried_out old new told hosts counting collects same sound none uncounted =
         let each : All (λ (own : Tools D CountedResults). IsUncounted hosts counting (begin own).0) tools = λ k d within. subst (IsUncounted hosts counting) (sym (begin_is (get_or tools k d))) (uncounted k d within) in
         record {
           begun = map begin tools;
           back = map back workers;
           end = end;
-          ran = subst (λ (n : ℕ). IsManyRun world may_stop names job_at (TakesTimed moments Takes) jobs (map begin tools) (map back workers) end n) (sym same) ran;
+          ran = subst (λ (n : ℕ). IsManyRun world may_stop names job_at (TakesTimed is_reading Takes) jobs (map begin tools) (map back workers) end n) (sym same) ran;
           sound = sound;
           threads = length-map tools begin;
           uncounted = All-map (λ (own : CountedResults × ℕ). IsUncounted hosts counting own.0) begin tools each;
@@ -60,6 +60,6 @@ module _ {W D : Type 0} (world : World W) (may_stop moments : ℕ → Type 0) (n
         }
 
     pub if_carried_out : (old : Collected) (result : Result Ran LoadError) (hosts : ℕ) (counting : Counting) → IfOk result (λ ran. Collects old ran.collected workers) → IfOk result (λ ran. ran.drawn ≡ drawn) → OnOk result (is_fault end ≡ false) → IsNone hosts old
-        → All (λ (own : Tools D CountedResults). IsUncounted hosts counting own.results) tools → IfOk result (λ ran. HasCarriedOut world may_stop moments names job_at jobs (length tools) hosts counting ran.collected ran.drawn)
+        → All (λ (own : Tools D CountedResults). IsUncounted hosts counting own.results) tools → IfOk result (λ ran. HasCarriedOut world may_stop is_reading names job_at jobs (length tools) hosts counting ran.collected ran.drawn)
     if_carried_out old (Ok ran) hosts counting collects same sound none uncounted = has_carried_out old ran.collected ran.drawn hosts counting collects same sound none uncounted
     if_carried_out old (Err error) hosts counting collects same sound none uncounted = tt

@@ -13,28 +13,28 @@ use Rattle.load_run.specs.Counting.{missed_of, warm_of}
 use Rattle.load_run.specs.ManyLoads.{AreLogsIn, HasCarriedOut, HasRun, IsLoadedMany, IsLoadedManyBy, counting_of, jobs_of, workers_of}
 use Rattle.load_run.specs.UrlJobs.{in_turn}
 
-module _ {W : Type 0} (world : World W) (may_stop told : ℕ → Type 0) (names : CacheNames) (plan : ManyPlan) where
+module _ {W : Type 0} (world : World W) (may_stop is_reading : ℕ → Type 0) (names : CacheNames) (plan : ManyPlan) where
   pub has_run : (urls : List Job) (otherwise : Job) (jobs workers : ℕ) (result : Result Ran LoadError) → urls ≡ plan.urls.now → 0 < length urls → jobs ≡ jobs_of plan.jobs → workers ≡ workers_of plan
-      → IfOk result (λ ran. HasCarriedOut world may_stop told names (in_turn urls otherwise) jobs workers plan.hosts (counting_of plan) ran.collected ran.drawn) → IfOk result (λ ran. HasRun world may_stop told names plan ran.collected ran.drawn)
+      → IfOk result (λ ran. HasCarriedOut world may_stop is_reading names (in_turn urls otherwise) jobs workers plan.hosts (counting_of plan) ran.collected ran.drawn) → IfOk result (λ ran. HasRun world may_stop is_reading names plan ran.collected ran.drawn)
   has_run urls otherwise jobs workers (Ok ran) same some all many carried_out = record {
     otherwise = otherwise;
     some = subst (λ (list : List Job). 0 < length list) same some;
-    carried_out = subst (λ (list : List Job). HasCarriedOut world may_stop told names (in_turn list otherwise) (jobs_of plan.jobs) (workers_of plan) plan.hosts (counting_of plan) ran.collected ran.drawn) same
-        (subst (λ (n : ℕ). HasCarriedOut world may_stop told names (in_turn urls otherwise) (jobs_of plan.jobs) n plan.hosts (counting_of plan) ran.collected ran.drawn) many
-        (subst (λ (n : ℕ). HasCarriedOut world may_stop told names (in_turn urls otherwise) n workers plan.hosts (counting_of plan) ran.collected ran.drawn) all carried_out));
+    carried_out = subst (λ (list : List Job). HasCarriedOut world may_stop is_reading names (in_turn list otherwise) (jobs_of plan.jobs) (workers_of plan) plan.hosts (counting_of plan) ran.collected ran.drawn) same
+        (subst (λ (n : ℕ). HasCarriedOut world may_stop is_reading names (in_turn urls otherwise) (jobs_of plan.jobs) n plan.hosts (counting_of plan) ran.collected ran.drawn) many
+        (subst (λ (n : ℕ). HasCarriedOut world may_stop is_reading names (in_turn urls otherwise) n workers plan.hosts (counting_of plan) ran.collected ran.drawn) all carried_out));
   }
   has_run urls otherwise jobs workers (Err error) same some all many carried_out = tt
 
-  pub loaded_many_by : (ran : Ran) (jobs : ℕ) (result : Result LoadedMany LoadError) → jobs ≡ jobs_of plan.jobs → HasRun world may_stop told names plan ran.collected ran.drawn → told ran.ended → IfOk result (λ loaded. loaded.drawn ≡ ran.drawn)
+  pub loaded_many_by : (ran : Ran) (jobs : ℕ) (result : Result LoadedMany LoadError) → jobs ≡ jobs_of plan.jobs → HasRun world may_stop is_reading names plan ran.collected ran.drawn → is_reading ran.ended → IfOk result (λ loaded. loaded.drawn ≡ ran.drawn)
       → IfOk result (λ loaded. loaded.figures ≡ ran.collected.figures) → IfOk result (λ loaded. loaded.elapsed ≡ ran.ended - warm_of plan.times)
       → IfOk result (λ loaded. loaded.missed ≡ missed_of plan.times jobs ran.ended (ran.drawn - ran.collected.unbegun)) → IfOk result (λ loaded. AreLogsIn world names loaded.logs.items)
-      → IfOk result (λ loaded. IsGathered names ran.collected.passes.items loaded.gathered) → IfOk result (IsLoadedManyBy world may_stop told names plan)
+      → IfOk result (λ loaded. IsGathered names ran.collected.passes.items loaded.gathered) → IfOk result (IsLoadedManyBy world may_stop is_reading names plan)
   loaded_many_by ran jobs (Ok loaded) all has ended drawn figures elapsed missed logs gathered = record {
     collected = ran.collected;
-    ran = subst (λ (n : ℕ). HasRun world may_stop told names plan ran.collected n) (sym drawn) has;
+    ran = subst (λ (n : ℕ). HasRun world may_stop is_reading names plan ran.collected n) (sym drawn) has;
     figures_are = figures;
     ended = ran.ended;
-    ended_told = ended;
+    ended_read = ended;
     elapsed_is = elapsed;
     missed_is = rw (drawn, sym all) missed;
     logs_are = logs;
@@ -42,7 +42,7 @@ module _ {W : Type 0} (world : World W) (may_stop told : ℕ → Type 0) (names 
   }
   loaded_many_by ran jobs (Err error) all has ended drawn figures elapsed missed logs gathered = tt
 
-  pub loaded_many : (result : Result LoadedMany LoadError) → IsPlanFor plan.limits plan.hosts names → IfOk result (IsLoadedManyBy world may_stop told names plan) → IfOk result (IsLoadedMany world may_stop told plan)
+  pub loaded_many : (result : Result LoadedMany LoadError) → IsPlanFor plan.limits plan.hosts names → IfOk result (IsLoadedManyBy world may_stop is_reading names plan) → IfOk result (IsLoadedMany world may_stop is_reading plan)
   loaded_many (Ok loaded) planned by = record { names = names; planned = planned; by_them = by }
   loaded_many (Err error) planned by = tt
 

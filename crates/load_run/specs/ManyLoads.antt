@@ -27,53 +27,53 @@ use Rattle.load_run.specs.Counting.{AddsAll, IsUncounted, Takes, missed_of, warm
 use Rattle.load_run.specs.Logs.{AreLogsOf}
 use Rattle.load_run.specs.UrlJobs.{in_turn}
 
--- so many threads work: one for each of the addresses, and no more than there are places
+-- number of threads: one for each address, but at most one for each place
 abbrev pub workers_of : ManyPlan → ℕ
 workers_of plan = min plan.connections (length plan.addresses.items)
 
--- so many jobs there are; without a number so many as can be drawn
+-- number of jobs; without a limit, all that can be drawn
 abbrev pub jobs_of : Option ℕ → ℕ
 jobs_of None = 9223372036854775807
 jobs_of (Some jobs) = jobs
 
--- by what the results are counted
+-- the rules by which results are counted
 abbrev pub counting_of : ManyPlan → Counting
 counting_of plan = record { urls = plan.urls; times = plan.times; fails_statuses = plan.fails_statuses }
 
--- what comes back of a thread: what has counted its results, and its pass
+-- the two parts that a thread hands back: the counter of its results, and its pass
 abbrev pub results_of : CountedResults × ℕ × Accounts → CountedResults
 results_of back = back.0
 
 abbrev pub pass_of : CountedResults × ℕ × Accounts → Accounts
 pass_of back = back.2
 
--- nothing was collected yet, for so many hosts
+-- nothing was collected yet, for `hosts` hosts
 pub record IsNone (hosts : ℕ) (collected : Collected) : Type 0 where
   pub figures : collected.figures ≡ no_figures hosts
   pub unbegun : collected.unbegun ≡ 0
   pub passes : collected.passes.items ≡ []
 
--- what one thread leaves: what has counted its results, and its pass
+-- the same two parts of a finished thread
 abbrev pub results_in : {D : Type 0} → Finished D CountedResults → CountedResults
 results_in own = own.results
 
 abbrev pub pass_in : {D : Type 0} → Finished D CountedResults → Accounts
 pass_in own = own.pass
 
--- what all threads leave was collected, the last one first
+-- the parts of all threads were collected, the last thread's first
 pub record Collects {D : Type 0} (old new : Collected) (workers : List (Finished D CountedResults)) : Type 0 where
   pub figures : AddsAll old.figures (reverse (map (results_in {D = D}) workers)) new.figures
   pub unbegun : new.unbegun ≡ with_unbegun old.unbegun (reverse (map (results_in {D = D}) workers))
   pub passes : new.passes.items ≡ reverse (map (pass_in {D = D}) workers)
 
--- So many jobs were carried out by so many threads, in a run over the cache of those names that no fault ended. It may stop
--- these jobs, and its clock told these moments. These are its passes, what all threads have counted, and how many jobs were
--- stopped as they were to begin.
-pub record HasCarriedOut {W : Type 0} (world : World W) (may_stop told : ℕ → Type 0) (names : CacheNames) (job_at : ℕ → Job) (jobs workers hosts : ℕ) (counting : Counting) (collected : Collected) (drawn : ℕ) : Type 0 where
+-- `workers` threads carried out these jobs in a run over the cache of those names, and no fault ended it. `may_stop` is true
+-- of each job that the run may stop, and `is_reading` of each possible reading of its clock. `collected` has the passes of
+-- the run, the sum of what its threads counted, and the number of jobs that were stopped before they began.
+pub record HasCarriedOut {W : Type 0} (world : World W) (may_stop is_reading : ℕ → Type 0) (names : CacheNames) (job_at : ℕ → Job) (jobs workers hosts : ℕ) (counting : Counting) (collected : Collected) (drawn : ℕ) : Type 0 where
   pub begun : List (CountedResults × ℕ)
   pub back : List (CountedResults × ℕ × Accounts)
   pub end : RunEnd
-  pub ran : IsManyRun world may_stop names job_at (TakesTimed told Takes) jobs begun back end drawn
+  pub ran : IsManyRun world may_stop names job_at (TakesTimed is_reading Takes) jobs begun back end drawn
   pub sound : is_fault end ≡ false
   pub threads : length begun ≡ workers
   pub uncounted : All (λ (own : CountedResults × ℕ). IsUncounted hosts counting own.0) begun
@@ -81,34 +81,34 @@ pub record HasCarriedOut {W : Type 0} (world : World W) (may_stop told : ℕ →
   pub unbegun_is : collected.unbegun ≡ with_unbegun 0 (reverse (map results_of back))
   pub passes_are : collected.passes.items ≡ reverse (map pass_of back)
 
--- so the jobs of the plan's URLs were, of which there is one at least, in turn
-pub record HasRun {W : Type 0} (world : World W) (may_stop told : ℕ → Type 0) (names : CacheNames) (plan : ManyPlan) (collected : Collected) (drawn : ℕ) : Type 0 where
+-- the jobs were requests of the plan's URLs, one after another; the plan has at least one URL
+pub record HasRun {W : Type 0} (world : World W) (may_stop is_reading : ℕ → Type 0) (names : CacheNames) (plan : ManyPlan) (collected : Collected) (drawn : ℕ) : Type 0 where
   pub otherwise : Job
   pub some : 0 < length plan.urls.now
-  pub carried_out : HasCarriedOut world may_stop told names (in_turn plan.urls.now otherwise) (jobs_of plan.jobs) (workers_of plan) plan.hosts (counting_of plan) collected drawn
+  pub carried_out : HasCarriedOut world may_stop is_reading names (in_turn plan.urls.now otherwise) (jobs_of plan.jobs) (workers_of plan) plan.hosts (counting_of plan) collected drawn
 
--- The jobs are those of such a run, and so are the figures. The logs are cut from those of the cache, and the account is its
--- own at its end, with the passes of the run. By when the run ended, which its clock told, so long it took, and so many jobs
--- were missed.
-pub record IsLoadedManyBy {W : Type 0} (world : World W) (may_stop told : ℕ → Type 0) (names : CacheNames) (plan : ManyPlan) (loaded : LoadedMany) : Type 0 where
+-- The jobs are those of such a run, and so are the figures. The logs are cut from those of the cache, and the account is
+-- that of the cache at its end, with the passes of the run. The run ended at a reading of its clock, from which the elapsed
+-- time and the number of missed jobs are computed.
+pub record IsLoadedManyBy {W : Type 0} (world : World W) (may_stop is_reading : ℕ → Type 0) (names : CacheNames) (plan : ManyPlan) (loaded : LoadedMany) : Type 0 where
   pub collected : Collected
-  pub ran : HasRun world may_stop told names plan collected loaded.drawn
+  pub ran : HasRun world may_stop is_reading names plan collected loaded.drawn
   pub figures_are : loaded.figures ≡ collected.figures
   pub ended : ℕ
-  pub ended_told : told ended
+  pub ended_read : is_reading ended
   pub elapsed_is : loaded.elapsed ≡ ended - warm_of plan.times
   pub missed_is : loaded.missed ≡ missed_of plan.times (jobs_of plan.jobs) ended (loaded.drawn - collected.unbegun)
   pub logs_are : AreLogsOf W names loaded.logs.items
   pub gathered_is : IsGathered names collected.passes.items loaded.gathered
 
--- and that cache was made under the plan's limits, for so many hosts
-pub record IsLoadedMany {W : Type 0} (world : World W) (may_stop told : ℕ → Type 0) (plan : ManyPlan) (loaded : LoadedMany) : Type 0 where
+-- and that cache was made under the plan's limits, for the plan's number of hosts
+pub record IsLoadedMany {W : Type 0} (world : World W) (may_stop is_reading : ℕ → Type 0) (plan : ManyPlan) (loaded : LoadedMany) : Type 0 where
   pub names : CacheNames
   pub planned : IsPlanFor plan.limits plan.hosts names
-  pub by_them : IsLoadedManyBy world may_stop told names plan loaded
+  pub by_them : IsLoadedManyBy world may_stop is_reading names plan loaded
 
--- why a run with so many tools and places did not begin or has no account: bad tools, only where they are; else memory or a
--- poller
+-- The reason that a run did not begin, or has no account: bad tools, and then `tools` and `places` are bad; else an
+-- allocation failure or a poller's fault.
 abbrev pub IsManyRefusedFor : ℕ → ℕ → LoadError → Type 0
 IsManyRefusedFor tools places (Run BadWorkers) = are_bad_tools tools places ≡ true
 IsManyRefusedFor tools places (Run fault) = IsWorkerFault fault

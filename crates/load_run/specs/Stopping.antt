@@ -2,6 +2,6 @@
 use Rattle.std.specs.Prelude.{◌⊎◌, IsSome}
 use Rattle.load_run.specs.declared.many.plan.LoadTimes.{LoadTimes}
 
--- one may be stopped only if it has a time limit, the load has an end, or its watcher may end it
+-- A job may be stopped only if jobs have a time limit, the load has an end, or its watcher may end it.
 abbrev pub MayStop : LoadTimes → Type 0 → Type 0
 MayStop times may_end = IsSome times.timeout ⊎ IsSome times.seconds ⊎ may_end

@@ -1,22 +1,22 @@
-//! When the jobs at the places of a loop began.
+//! The moments at which the jobs at the places of a loop began.
 
 ghost use Rattle.std.specs.Prelude.{◌≡◌, None, Some, false, length, replicate, IfOk};
 ghost use Rattle.std.specs.Prelude.{slice_index_or, slice_set};
-ghost use Rattle.run_loop.specs.Moments.{AreTold, IsTimed};
+ghost use Rattle.run_loop.specs.Moments.{AreReadings, IsTimed};
 
 use crate::results::Span;
 use crate::timer::Timer;
 use exchange::{Phases, Reason};
 use std::alloc::{AllocError, Global};
 
-/// By place, the moment at which the last job began there, in microseconds.
+/// For each place, the moment at which the last job there began, in microseconds.
 #[derive(Drop)]
 pub(crate) struct Begins {
     moments: Vec<Option<u64>>,
 }
 
 impl Begins {
-    /// For `places` places, at which no job has begun.
+    /// Returns the moments of `places` places, at which no job has begun.
     ///
     /// # Errors
     ///
@@ -35,7 +35,7 @@ impl Begins {
         self.moments.as_mut_slice().fill(None);
     }
 
-    /// Notes that a job begins at that place, at that moment.
+    /// Records that a job begins at that place, at `now`.
     pub(crate) fn begin(&mut self, place: usize, now: u64)
         ensures { self.new.moments.items ≡ slice_set self.old.moments.items place (Some now) }
     {
@@ -44,7 +44,7 @@ impl Begins {
         }
     }
 
-    /// Returns the moment at which the last job began at that place.
+    /// Returns the moment at which the last job at that place began.
     pub(crate) fn began(&self, place: usize) -> Option<u64>
         ensures { result ≡ slice_index_or self.now.moments.items place None }
     {
@@ -55,7 +55,7 @@ impl Begins {
     }
 
     /// Returns the span of the job at that place, which ends now.
-    #[tactic(auto, using(crate::proofs::Timed::told_at))]
+    #[tactic(auto, using(crate::proofs::Timed::reading_at))]
     pub(crate) fn span<T: Timer>(
         &self,
         place: usize,
@@ -64,7 +64,7 @@ impl Begins {
         retried: bool,
         timer: &T,
     ) -> Span
-        requires told { AreTold (T.tells_micros timer.now) self.now.moments.items }
+        requires readings { AreReadings (T.tells_micros timer.now) self.now.moments.items }
         ensures timed { IsTimed (T.tells_micros timer.now) result }
         ensures retried { result.retried ≡ retried }
     {
@@ -84,7 +84,7 @@ impl Begins {
     }
 }
 
-// These moments, none of which is after `end` then.
+// Returns these moments, with `end` in place of each later one.
 fn within(phases: Phases, end: u64) -> Phases {
     Phases {
         leased: phases.leased.map(|moment| moment.min(end)),
@@ -93,7 +93,7 @@ fn within(phases: Phases, end: u64) -> Phases {
     }
 }
 
-/// Returns the span of a job that ends as it begins: now.
+/// Returns the span of a job that ends now, as it begins.
 pub(crate) fn no_span<T: Timer>(timer: &T) -> Span
     ensures timed { IsTimed (T.tells_micros timer.now) result }
     ensures retried { result.retried ≡ false }

@@ -7,7 +7,7 @@ ghost use Rattle.exchange.specs.Worlds.{world_of};
 ghost use Rattle.exchange.specs.Slabs.{AreKept, one_if_some};
 ghost use Rattle.run_loop.specs.Going.{rules_of, rules_at, point, RunsOn, RunsOnWith, RunsToEnd};
 ghost use Rattle.run_loop.specs.Going.{MayClose, IfStopped, IfComplete, IfIncomplete, TurnsAt};
-ghost use Rattle.run_loop.specs.Moments.{AreTold, TakesTimed};
+ghost use Rattle.run_loop.specs.Moments.{AreReadings, TakesTimed};
 ghost use Rattle.run_loop.specs.Steps.{JoinsIf, IfNever};
 ghost use Rattle.run_loop.specs.declared.until.Until.TheVariants.{Ended as EndedAll};
 
@@ -26,13 +26,13 @@ use std::alloc::{AllocError, Global};
 use std::sync::Wait;
 use std::time::Duration;
 
-/// How often the timer is asked which jobs it stops, in microseconds.
+/// Time between two sweeps, in microseconds.
 const SWEEP_MICROS: u64 = 10_000;
 
 /// The most rounds between two turns of the dial, beside the first one.
 const MORE_ROUNDS: u32 = 7;
 
-/// When the next job may begin.
+/// The moment at which the next job may begin.
 #[derive(Clone, Copy)]
 enum Next {
     /// Once a place is free.
@@ -43,21 +43,21 @@ enum Next {
     Never,
 }
 
-/// The loop of a run over one cache, with so many places: no more jobs are under way at once.
+/// The loop of a run over one cache. It has a fixed number of places, one for each job under way.
 pub struct RunLoop<W: Wire> {
     slab: Slab<W>,
     places: usize,
     begins: Begins,
-    // The moment at which the timer was asked last.
+    // The moment of the last sweep.
     swept: u64,
     spares: Spares,
     task: Solo,
-    // How many rings were heard.
+    // Number of rings that were heard.
     heard: u64,
     late: LateGrants,
-    // How many rounds there were since the last turn of the dial, beside the first one.
+    // Number of rounds since the last turn of the dial, beside the first one.
     rounds: u32,
-    // The moment before the last turn of the dial: what had arrived by then is known.
+    // A moment before the last turn of the dial, which found what had arrived by then.
     turned: u64,
     // A job has ended, or the bell has rung, since the last call.
     has_news: bool,
@@ -78,7 +78,7 @@ fn poll_round<W: Wire, C: Cache<W>, D: Dial<W>, J: Jobs, R: Results, T: Timer>(
 )
     requires kept { AreKept (world_of W.untouched W.happened (T.tells timer.now))
         (C.home cache.old) slab.old.slots }
-    requires told { AreTold (T.tells_micros timer.now) begins.now.moments.items }
+    requires readings { AreReadings (T.tells_micros timer.now) begins.now.moments.items }
     ensures stays { C.home cache.new ≡ C.home cache.old }
     ensures kept { AreKept (world_of W.untouched W.happened (T.tells timer.now))
         (C.home cache.new) slab.new.slots }
@@ -106,7 +106,7 @@ fn poll_round<W: Wire, C: Cache<W>, D: Dial<W>, J: Jobs, R: Results, T: Timer>(
 }
 
 impl<W: Wire> RunLoop<W> {
-    /// A loop with so many places, in which no job is under way. Its polls are those of the task.
+    /// Makes a loop with `places` places, in which no job is under way. `task` polls its transfers.
     ///
     /// # Errors
     ///
@@ -133,10 +133,10 @@ impl<W: Wire> RunLoop<W> {
     }
 
     /// Carries out the jobs that it draws, until none is left, the timer ends the run or breaks it
-    /// off, or a turn of the dial fails; then what is under way is cancelled. Each job that was
+    /// off, or a turn of the dial fails; then the jobs under way are cancelled. Each job that was
     /// drawn has one result.
     ///
-    /// Asked of the caller: no job is under way in it, as it was made.
+    /// Requires: no job is under way in the loop.
     pub fn run<C: Cache<W>, D: Dial<W>, J: Jobs, R: Results, T: Timer, H: Wait>(
         self,
         rt: &H,
@@ -165,10 +165,11 @@ impl<W: Wire> RunLoop<W> {
         run.finish(rt, cache, dial, jobs, results, timer)
     }
 
-    /// Carries on with what is under way, and with the jobs that it draws, as `run` does, and ends
+    /// Carries on with the jobs under way, and with the jobs that it draws, as `run` does, and ends
     /// the loop.
     ///
-    /// Asked of the caller: each transfer in it stands as the wires and the clock tell.
+    /// Requires: each transfer in it is in a state that the wires and the clock can have led to,
+    /// and the moments at which its jobs began are readings of the timer.
     pub fn finish<C: Cache<W>, D: Dial<W>, J: Jobs, R: Results, T: Timer, H: Wait>(
         self,
         rt: &H,
@@ -180,7 +181,7 @@ impl<W: Wire> RunLoop<W> {
     ) -> RunEnd
         requires kept { AreKept (world_of W.untouched W.happened (T.tells timer.now))
             (C.home cache.old) self.slab.slots }
-        requires told { AreTold (T.tells_micros timer.now) self.begins.moments.items }
+        requires readings { AreReadings (T.tells_micros timer.now) self.begins.moments.items }
         ensures stays { C.home cache.new ≡ C.home cache.old }
         ensures ends { RunsToEnd result (rules_of C.did (world_of W.untouched W.happened (T.tells
             timer.now)) (T.may_stop timer.now) (J.job_at jobs.old)
@@ -224,14 +225,14 @@ impl<W: Wire> RunLoop<W> {
         slab.destroy_empty();
     }
 
-    /// Carries on with what is under way, and with the jobs that it draws, until no job is left, or
-    /// the timer or a fault ends the run; `until` is what it waits for once no job is left. What is
-    /// under way stays so: another call carries on with it, beside other jobs if need be. What has
-    /// arrived since the last call is read before the timer stops a job. A job that is due at the
-    /// moment at which the run ends does not begin.
+    /// Carries on with the jobs under way, and with the jobs that it draws, until no job is left,
+    /// or the timer or a fault ends the run. `until` is the event that it waits for once no job is
+    /// left to draw. Jobs that are still under way stay so: another call carries on with them, next
+    /// to other jobs if need be. Bytes that have arrived since the last call are read before the
+    /// timer stops a job. A job that is due at the moment at which the run ends does not begin.
     ///
-    /// Requires: each transfer in it is in a state that the wires and the clock can have led to, and
-    /// the jobs began at moments that the timer told.
+    /// Requires: each transfer in it is in a state that the wires and the clock can have led to,
+    /// and the moments at which its jobs began are readings of the timer.
     pub fn run_on<C: Cache<W>, D: Dial<W>, J: Jobs, R: Results, T: Timer, H: Wait>(
         &mut self,
         until: Until,
@@ -244,11 +245,11 @@ impl<W: Wire> RunLoop<W> {
     ) -> RunEnd
         requires kept { AreKept (world_of W.untouched W.happened (T.tells timer.now))
             (C.home cache.old) self.old.slab.slots }
-        requires told { AreTold (T.tells_micros timer.now) self.old.begins.moments.items }
+        requires readings { AreReadings (T.tells_micros timer.now) self.old.begins.moments.items }
         ensures stays { C.home cache.new ≡ C.home cache.old }
         ensures kept { AreKept (world_of W.untouched W.happened (T.tells timer.now))
             (C.home cache.new) self.new.slab.slots }
-        ensures told { AreTold (T.tells_micros timer.now) self.new.begins.moments.items }
+        ensures readings { AreReadings (T.tells_micros timer.now) self.new.begins.moments.items }
         ensures goes { RunsOn (rules_of C.did (world_of W.untouched W.happened (T.tells
             timer.now)) (T.may_stop timer.now) (J.job_at jobs.old)
             (TakesTimed (T.tells_micros timer.now) R.took))
@@ -320,11 +321,11 @@ impl<W: Wire> RunLoop<W> {
     ) -> Next
         requires kept { AreKept (world_of W.untouched W.happened (T.tells timer.now))
             (C.home cache.old) self.old.slab.slots }
-        requires told { AreTold (T.tells_micros timer.now) self.old.begins.moments.items }
+        requires readings { AreReadings (T.tells_micros timer.now) self.old.begins.moments.items }
         ensures stays { C.home cache.new ≡ C.home cache.old }
         ensures kept { AreKept (world_of W.untouched W.happened (T.tells timer.now))
             (C.home cache.new) self.new.slab.slots }
-        ensures told { AreTold (T.tells_micros timer.now) self.new.begins.moments.items }
+        ensures readings { AreReadings (T.tells_micros timer.now) self.new.begins.moments.items }
         ensures goes { RunsOn (rules_of C.did (world_of W.untouched W.happened (T.tells
             timer.now)) (T.may_stop timer.now) (J.job_at jobs.old)
             (TakesTimed (T.tells_micros timer.now) R.took))
@@ -340,7 +341,8 @@ impl<W: Wire> RunLoop<W> {
         self.fill(cache, jobs, results, timer)
     }
 
-    // Draws jobs and begins them, while a place is free and a job is due: when the next may begin.
+    // Draws jobs and begins them, while a place is free and a job is due. Returns when the next job
+    // may begin.
     fn fill<C: Cache<W>, J: Jobs, R: Results, T: Timer>(
         &mut self,
         cache: &C,
@@ -350,10 +352,10 @@ impl<W: Wire> RunLoop<W> {
     ) -> Next
         requires kept { AreKept (world_of W.untouched W.happened (T.tells timer.now))
             (C.home cache.now) self.old.slab.slots }
-        requires told { AreTold (T.tells_micros timer.now) self.old.begins.moments.items }
+        requires readings { AreReadings (T.tells_micros timer.now) self.old.begins.moments.items }
         ensures kept { AreKept (world_of W.untouched W.happened (T.tells timer.now))
             (C.home cache.now) self.new.slab.slots }
-        ensures told { AreTold (T.tells_micros timer.now) self.new.begins.moments.items }
+        ensures readings { AreReadings (T.tells_micros timer.now) self.new.begins.moments.items }
         ensures goes { RunsOn (rules_of C.did (world_of W.untouched W.happened (T.tells
             timer.now)) (T.may_stop timer.now) (J.job_at jobs.old)
             (TakesTimed (T.tells_micros timer.now) R.took))
@@ -387,11 +389,11 @@ impl<W: Wire> RunLoop<W> {
     )
         requires kept { AreKept (world_of W.untouched W.happened (T.tells timer.now))
             (C.home cache.now) self.old.slab.slots }
-        requires told { AreTold (T.tells_micros timer.now) self.old.begins.moments.items }
+        requires readings { AreReadings (T.tells_micros timer.now) self.old.begins.moments.items }
         requires free { sum_by one_if_some self.old.slab.slots < self.old.places }
         ensures kept { AreKept (world_of W.untouched W.happened (T.tells timer.now))
             (C.home cache.now) self.new.slab.slots }
-        ensures told { AreTold (T.tells_micros timer.now) self.new.begins.moments.items }
+        ensures readings { AreReadings (T.tells_micros timer.now) self.new.begins.moments.items }
         ensures goes { RunsOnWith (rules_of C.did (world_of W.untouched W.happened (T.tells
             timer.now)) (T.may_stop timer.now) (J.job_at jobs.now)
             (TakesTimed (T.tells_micros timer.now) R.took)) number cache.now
@@ -404,7 +406,8 @@ impl<W: Wire> RunLoop<W> {
         results.take(number, Done::Bad(Fault::Memory), no_span(timer));
     }
 
-    // Lets a transfer of the job of that number join, if there is memory for it; whether it did.
+    // Lets a transfer of the job of that number join, if there is memory for it. Returns true if it
+    // did.
     fn joins<C: Cache<W>, J: Jobs, T: Timer>(
         &mut self,
         number: u64,
@@ -414,11 +417,11 @@ impl<W: Wire> RunLoop<W> {
     ) -> bool
         requires kept { AreKept (world_of W.untouched W.happened (T.tells timer.now))
             (C.home cache.now) self.old.slab.slots }
-        requires told { AreTold (T.tells_micros timer.now) self.old.begins.moments.items }
+        requires readings { AreReadings (T.tells_micros timer.now) self.old.begins.moments.items }
         requires free { sum_by one_if_some self.old.slab.slots < self.old.places }
         ensures kept { AreKept (world_of W.untouched W.happened (T.tells timer.now))
             (C.home cache.now) self.new.slab.slots }
-        ensures told { AreTold (T.tells_micros timer.now) self.new.begins.moments.items }
+        ensures readings { AreReadings (T.tells_micros timer.now) self.new.begins.moments.items }
         ensures joins { JoinsIf result (J.job_at jobs.now number) number
             self.old.slab.slots self.new.slab.slots }
         ensures places { self.new.places ≡ self.old.places }
@@ -442,9 +445,10 @@ impl<W: Wire> RunLoop<W> {
         }
     }
 
-    // Stops the jobs that the timer stops, if it was not asked for ten milliseconds, and all that
-    // the last turn of the dial found was polled. Each has its result. The first transfer that
-    // waits at each site asks for its connection, though no bell rang.
+    // Stops the jobs that the timer stops, if the last sweep was ten milliseconds ago, and all
+    // transfers that the last turn of the dial found ready were polled. Each stopped job has its
+    // result. The first transfer that waits at each site asks for its connection, though no bell
+    // rang.
     fn sweep<C: Cache<W>, D: Dial<W>, J: Jobs, R: Results, T: Timer>(
         &mut self,
         cache: &mut C,
@@ -455,11 +459,11 @@ impl<W: Wire> RunLoop<W> {
     )
         requires kept { AreKept (world_of W.untouched W.happened (T.tells timer.now))
             (C.home cache.old) self.old.slab.slots }
-        requires told { AreTold (T.tells_micros timer.now) self.old.begins.moments.items }
+        requires readings { AreReadings (T.tells_micros timer.now) self.old.begins.moments.items }
         ensures stays { C.home cache.new ≡ C.home cache.old }
         ensures kept { AreKept (world_of W.untouched W.happened (T.tells timer.now))
             (C.home cache.new) self.new.slab.slots }
-        ensures told { AreTold (T.tells_micros timer.now) self.new.begins.moments.items }
+        ensures readings { AreReadings (T.tells_micros timer.now) self.new.begins.moments.items }
         ensures goes { RunsOn (rules_of C.did (world_of W.untouched W.happened (T.tells
             timer.now)) (T.may_stop timer.now) (J.job_at _jobs.now)
             (TakesTimed (T.tells_micros timer.now) R.took))
@@ -485,7 +489,7 @@ impl<W: Wire> RunLoop<W> {
         }
     }
 
-    // Stops the job at that place, if one is under way there that the timer stops as of the last
+    // Stops the job at that place, if the timer stops one that is under way there, as of the last
     // turn of the dial. It has its result then.
     fn stop_at<C: Cache<W>, D: Dial<W>, J: Jobs, R: Results, T: Timer>(
         &mut self,
@@ -498,11 +502,11 @@ impl<W: Wire> RunLoop<W> {
     )
         requires kept { AreKept (world_of W.untouched W.happened (T.tells timer.now))
             (C.home cache.old) self.old.slab.slots }
-        requires told { AreTold (T.tells_micros timer.now) self.old.begins.moments.items }
+        requires readings { AreReadings (T.tells_micros timer.now) self.old.begins.moments.items }
         ensures stays { C.home cache.new ≡ C.home cache.old }
         ensures kept { AreKept (world_of W.untouched W.happened (T.tells timer.now))
             (C.home cache.new) self.new.slab.slots }
-        ensures told { AreTold (T.tells_micros timer.now) self.new.begins.moments.items }
+        ensures readings { AreReadings (T.tells_micros timer.now) self.new.begins.moments.items }
         ensures goes { RunsOn (rules_of C.did (world_of W.untouched W.happened (T.tells
             timer.now)) (T.may_stop timer.now) (J.job_at _jobs.now)
             (TakesTimed (T.tells_micros timer.now) R.took))
@@ -540,11 +544,11 @@ impl<W: Wire> RunLoop<W> {
     )
         requires kept { AreKept (world_of W.untouched W.happened (T.tells timer.now))
             (C.home cache.old) self.old.slab.slots }
-        requires told { AreTold (T.tells_micros timer.now) self.old.begins.moments.items }
+        requires readings { AreReadings (T.tells_micros timer.now) self.old.begins.moments.items }
         ensures stays { C.home cache.new ≡ C.home cache.old }
         ensures kept { AreKept (world_of W.untouched W.happened (T.tells timer.now))
             (C.home cache.new) self.new.slab.slots }
-        ensures told { AreTold (T.tells_micros timer.now) self.new.begins.moments.items }
+        ensures readings { AreReadings (T.tells_micros timer.now) self.new.begins.moments.items }
         ensures goes { RunsOn (rules_of C.did (world_of W.untouched W.happened (T.tells
             timer.now)) (T.may_stop timer.now) (J.job_at _jobs.now)
             (TakesTimed (T.tells_micros timer.now) R.took))
@@ -588,7 +592,7 @@ impl<W: Wire> RunLoop<W> {
         self.wait(dial, timer, next)
     }
 
-    // Whether a transfer is due, or a job that may begin at once has a place.
+    // True if a transfer is due, or a place is free for a job that may begin at once.
     fn goes_on(&self, next: Next) -> bool {
         match next {
             Next::Free if self.slab.len() < self.places => true,
@@ -596,7 +600,7 @@ impl<W: Wire> RunLoop<W> {
         }
     }
 
-    // How long a turn of the dial may wait, if no transfer becomes due.
+    // The longest wait of a turn of the dial, if no transfer becomes due.
     fn most_wait<T: Timer>(&self, timer: &T, next: Next) -> Duration {
         match next {
             Next::At(due) => Duration::from_micros(due.saturating_sub(timer.moment())),
@@ -605,8 +609,8 @@ impl<W: Wire> RunLoop<W> {
         }
     }
 
-    // Waits for what may bring a transfer on, or until the next job is due, by a turn of the dial.
-    // It looks whether the bell rang once the bell can end the turn: so no ring is missed.
+    // Waits for an event of a transfer, or until the next job is due, by a turn of the dial. It
+    // checks for rings once the bell can end the turn, so no ring is missed.
     fn wait<D: Dial<W>, T: Timer>(&mut self, dial: &mut D, timer: &T, next: Next) -> Turned
         ensures turns { CountsTurn result (failed_turns D.shown dial.old)
             (failed_turns D.shown dial.new) }
@@ -630,7 +634,7 @@ impl<W: Wire> RunLoop<W> {
         turned
     }
 
-    // Rings the bell if leases or tickets were spent since it was asked last.
+    // Rings the bell if leases or tickets were spent since the last call.
     fn tell_spent<T: Timer>(&mut self, timer: &T)
         ensures slots { self.new.slab.slots ≡ self.old.slab.slots }
         ensures begins { self.new.begins ≡ self.old.begins }
@@ -682,7 +686,7 @@ impl<W: Wire> RunLoop<W> {
         results.take(number, Done::Bad(Fault::Cancelled), no_span(_timer));
     }
 
-    // Closes what is under way; each job of it has its result.
+    // Closes the transfers under way. Each of their jobs has its result.
     fn close_all<C: Cache<W>, D: Dial<W>, J: Jobs, R: Results, T: Timer>(
         &mut self,
         end: RunEnd,
@@ -694,7 +698,7 @@ impl<W: Wire> RunLoop<W> {
     )
         requires kept { AreKept (world_of W.untouched W.happened (T.tells timer.now))
             (C.home cache.old) self.old.slab.slots }
-        requires told { AreTold (T.tells_micros timer.now) self.old.begins.moments.items }
+        requires readings { AreReadings (T.tells_micros timer.now) self.old.begins.moments.items }
         requires may { MayClose end (T.may_stop timer.now) self.old.slab.slots }
         ensures stays { C.home cache.new ≡ C.home cache.old }
         ensures goes { RunsOn (rules_at end (rules_of C.did (world_of W.untouched W.happened

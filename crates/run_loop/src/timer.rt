@@ -1,20 +1,20 @@
-//! The time of a run, what ends jobs before their response, and the bell between its loops.
+//! The clock of a run, its limits, and the bell between its loops.
 
 use exchange::Clock;
 
-/// A clock of microseconds. The ghost member is the moments that it may return.
+/// A clock of microseconds. The ghost member is its possible readings.
 pub trait MicroClock: Clock {
     ghost use Rattle.std.specs.Prelude.{ℕ};
 
-    /// It may return that moment.
+    /// That moment may be a reading of the clock.
     ghost tells_micros: { Self → ℕ → Type 0 };
 
-    /// The microseconds since some moment that stays the same.
+    /// Returns the microseconds since a fixed moment.
     fn moment(&self) -> u64
         ensures { tells_micros self.now result };
 }
 
-/// The time of a run, what ends jobs before their response, and the bell between its loops.
+/// The clock of a run, its limits, and the bell between its loops.
 ///
 /// The ghost member is the jobs that it may stop.
 pub trait Timer: MicroClock {
@@ -24,53 +24,54 @@ pub trait Timer: MicroClock {
     /// The job of that number may be stopped.
     ghost may_stop: { Self → ℕ → Type 0 };
 
-    /// True if the job of that number, which began at `began`, is to be stopped, as of `now`: it is
-    /// over its time limit, or nobody wants it any more. `now` is the last moment by which all that
-    /// had arrived was read.
+    /// True if the job of that number, which began at `began`, is to be stopped: it has reached its
+    /// time limit at `now`, or its result is no longer wanted. `now` is a moment before the last
+    /// turn of the dial: all bytes that had arrived by then have been read.
     fn stops(&self, number: u64, began: u64, now: u64) -> bool
         ensures { OnTrue result (may_stop self.now number) };
 
-    /// Whether the run is to end now: all jobs are stopped.
+    /// True if the run is to end now: all jobs are stopped.
     fn is_over(&self) -> bool
         ensures { OnTrue result ((job : ℕ) → may_stop self.now job) };
 
-    /// Whether the run is broken off for a fault elsewhere, as another loop over the same cache
-    /// met: all jobs are stopped, whichever may be.
+    /// True if the run is broken off for a fault elsewhere, for example in another loop over the
+    /// same cache: all jobs are stopped, including those that `stops` may not stop.
     fn is_broken_off(&self) -> bool {
         false
     }
 
-    /// How often the bell between the loops over one cache has rung. If that has risen, the first
-    /// transfer that waits at each site asks whether it has its connection.
+    /// Number of rings of the bell between the loops over one cache. Once it has risen, the first
+    /// transfer that waits at each site checks whether it has its connection.
     fn rings(&self) -> u64 {
         0
     }
 
-    /// Rings that bell: leases or tickets were spent in this loop, which has heard so many rings.
-    /// Answers how many it has heard then: its own too, unless another loop's came between.
+    /// Rings that bell, after leases or tickets were spent in this loop, which has heard `heard`
+    /// rings. Returns the number that it has heard then: its own ring is included, unless another
+    /// loop rang in between.
     fn ring(&self, heard: u64) -> u64 {
         heard
     }
 
-    /// From now on the bell ends the turn of the loop's dial.
+    /// Lets the bell end the turn of the loop's dial from now on.
     fn fall_asleep(&self) {}
 
-    /// The bell has no turn to end any more. Whether it ended one, or is about to.
+    /// Stops the bell from ending turns. Returns true if it ended one, or is about to.
     fn wake_up(&self) -> bool {
         false
     }
 
-    /// How often the other loops over the cache have woken up, if all of them are asleep now: then
-    /// each ring for what they gave up has come.
+    /// Number of times that the other loops over the cache have woken up, if all of them are asleep
+    /// now: then each ring for a lease or ticket that they spent has arrived.
     fn others_asleep(&self) -> Option<u64> {
         None
     }
 
-    /// So many transfers had their connection after a wait, and no ring had told of it: only the
-    /// loop's sweep, or the end of a turn's time, found it.
+    /// Records `grants` connections that no ring announced to their waiters: only the loop's sweep,
+    /// or the end of a turn's time, found them.
     fn note_late(&self, _grants: u64) {}
 
-    /// Does other work that is due from time to time. Each loop calls it every ten milliseconds or
-    /// so, while none of its transfers is polled; several loops may do so at once.
+    /// Does other periodic work. Each loop calls it about every ten milliseconds, while it polls no
+    /// transfer; several loops may call it at once.
     fn sweep(&self) {}
 }

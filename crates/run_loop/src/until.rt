@@ -1,12 +1,12 @@
-//! When a loop returns though its run goes on.
+//! The event that a call of a loop waits for.
 
-/// When a loop returns though its run goes on, once no job is left to draw.
+/// The event after which a call of `RunLoop::run_on` returns, once no job is left to draw.
 #[derive(Clone, Copy, Debug, PartialEq, Eq)]
 pub enum Until {
-    /// At once: each job that was drawn has begun.
+    /// Each job that was drawn has begun, so the call returns at once.
     Begun,
-    /// Once a job has ended, or the bell has rung, since the call.
+    /// A job has ended, or the bell has rung, since the call began.
     Freed,
-    /// Once no job is under way.
+    /// No job is under way.
     Ended,
 }

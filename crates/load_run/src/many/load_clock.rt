@@ -6,7 +6,7 @@ use exchange::Clock;
 use run_loop::MicroClock;
 use socket::SystemClock;
 
-/// The system's clock, which begins with the load. No contract says which moments a system tells.
+/// The system's clock, which starts with the load. No contract restricts its readings.
 #[derive(Drop)]
 pub(crate) struct LoadClock<'a>(pub(crate) SystemClock<'a, HostRuntime>);
 

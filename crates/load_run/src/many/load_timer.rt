@@ -1,4 +1,4 @@
-//! The time of a load, which ends jobs and the run, and keeps the logs short meanwhile.
+//! The timer of a load, which ends jobs and the run, and cuts the logs meanwhile.
 
 ghost use Rattle.load_run.specs.Stopping.{MayStop};
 
@@ -14,16 +14,16 @@ use socket::PolledWire;
 use std::sync::Wait;
 use std::sync::atomic::{AtomicU64, Ordering};
 
-/// How often the load is looked after, in microseconds.
+/// Time between two sweeps, in microseconds.
 const SWEEP_MICROS: u64 = 10_000;
 
-/// How often the logs are cut, in microseconds.
+/// Time between two cuts of the logs, in microseconds.
 const CUT_MICROS: u64 = 100_000;
 
-/// The time of a load, by the clock `K`: it stops jobs that are over their time limit, and ends the
-/// run once its seconds are up, or if its watcher ends it. Every 100 milliseconds it cuts the log of
-/// every host, so that memory does not grow with the number of jobs. Of several threads that sweep
-/// at once one does so.
+/// The timer of a load, by the clock `K`: it stops jobs that have reached their time limit, and
+/// ends the run once its seconds are up, or if its watcher ends it. Every 100 milliseconds it cuts
+/// the log of every host, so that memory does not grow with the number of jobs. If several threads
+/// sweep at once, one of them does the work.
 #[derive(Drop)]
 pub(crate) struct LoadTimer<'a, N: Names, R: Wait, V: Watch, K: MicroClock> {
     pub(crate) rt: &'a R,
@@ -33,7 +33,7 @@ pub(crate) struct LoadTimer<'a, N: Names, R: Wait, V: Watch, K: MicroClock> {
     pub(crate) watch: &'a V,
     /// The progress of each worker.
     pub(crate) progress: &'a [Progress],
-    /// The logs are not cut.
+    /// True if the logs are not cut.
     pub(crate) keeps_logs: bool,
     /// The moment of the last sweep, in microseconds.
     pub(crate) swept: AtomicU64,
@@ -43,7 +43,7 @@ pub(crate) struct LoadTimer<'a, N: Names, R: Wait, V: Watch, K: MicroClock> {
 }
 
 impl<N: Names, R: Wait, V: Watch, K: MicroClock> LoadTimer<'_, N, R, V, K> {
-    // Reports to the watcher how far the load is.
+    // Reports the progress of the load to the watcher.
     fn report(&self, micros: u64) {
         let mut done = 0u64;
         let mut failed = 0u64;
@@ -58,7 +58,7 @@ impl<N: Names, R: Wait, V: Watch, K: MicroClock> LoadTimer<'_, N, R, V, K> {
         });
     }
 
-    // Adds up how long transfers wait.
+    // Adds the time for which transfers have waited since the last sweep.
     fn add_waits(&self, micros: u64) {
         let mut waiting = 0u64;
         for site in 0..self.cache.hosts() {

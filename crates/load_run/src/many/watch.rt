@@ -1,34 +1,34 @@
-//! What watches a load while its jobs are carried out.
+//! Watchers of a running load.
 
-/// How far a load is.
+/// Progress of a load.
 #[derive(Clone, Copy, Debug, PartialEq, Eq)]
 pub struct Seen {
-    /// How many microseconds ago it began.
+    /// Microseconds since the load began.
     pub micros: u64,
-    /// How many jobs were done since the warm-up.
+    /// Number of jobs done since the warm-up.
     pub done: u64,
-    /// How many of them failed.
+    /// Number of those jobs that failed.
     pub failed: u64,
 }
 
-/// What watches a load while its jobs are carried out, and may end it.
+/// A watcher of a running load, which may end it.
 ///
-/// The ghost member is whether it may end the load.
+/// The ghost member is true if it may end the load.
 pub trait Watch {
     ghost use Rattle.std.specs.Bool.{OnTrue};
 
     /// It may end the load.
     ghost may_end: { Self → Type 0 };
 
-    /// True if the load is to end now. All threads ask it, often.
+    /// True if the load is to end now. All threads call it often.
     fn is_over(&self) -> bool
         ensures { OnTrue result (may_end self.now) };
 
-    /// One of the threads calls it every ten milliseconds or so.
+    /// Receives the progress of the load. One of the threads calls it about every ten milliseconds.
     fn look(&self, _seen: Seen) {}
 }
 
-/// Nobody watches.
+/// A watcher that does nothing.
 #[derive(Clone, Copy, Debug)]
 pub struct Unwatched;
 

@@ -12,7 +12,7 @@ loop-done-init g c =
     record {
       stays = search rules;
       kept = search rules;
-      told = search rules;
+      readings = search rules;
       may = search rules;
       goes = runs_same rules_ (point c.args.cache.now (g.J.Jobs.drawn c.args._jobs.now) c.args.self.now.slab.slots c.args.results.now);
       turns = search rules;
@@ -33,7 +33,7 @@ loop-done-preserved g c =
     record {
       stays = search rules;
       kept = search rules;
-      told = search rules;
+      readings = search rules;
       may = may_close_more may_stop slots left fewer c.args.end c.loop-done.invariant.may;
       goes = runs_then rules_ (point c.args.cache.now drawn c.args.self.now.slab.slots c.args.results.now) (point c.loop-done.cache drawn slots c.loop-done.results) (point c.close_last.new.cache drawn left c.take.new.self) c.loop-done.invariant.goes
           (runs_close rules_ (g.C.Cache.home c.loop-done.cache) c.loop-done.cache c.close_last.new.cache g.D.Dial.shown c.loop-done.dial c.close_last.new.dial drawn slots left c.loop-done.results c.take.new.self done used c.span-span.result c.in-Some.ensures.closes may (took, c.span-span.ensures.timed));

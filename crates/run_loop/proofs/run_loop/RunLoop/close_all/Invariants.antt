@@ -3,7 +3,7 @@ use Rattle.exchange.specs.Dialling.{failed_turns}
 use Rattle.exchange.specs.Worlds.{world_of}
 use Rattle.exchange.specs.Slabs.{AreKept, one_if_some}
 use Rattle.run_loop.specs.Going.{rules_of, rules_at, point, RunsOn, MayClose}
-use Rattle.run_loop.specs.Moments.{AreTold, TakesTimed}
+use Rattle.run_loop.specs.Moments.{AreReadings, TakesTimed}
 use Rattle.run_loop.proofs.run_loop.RunLoop.close_all.Given as goal
 
 abbrev pub decreases-loop-done : goal.decreases-loop-done
@@ -14,7 +14,7 @@ invariant-loop-done g l = record {
   stays : g.C.Cache.home l.cache ≡ g.C.Cache.home l.fn.cache;
   kept : AreKept (world_of g.W.Wire.untouched g.W.Wire.happened (g.T.Clock.tells l.fn.timer)) (g.C.Cache.home l.cache) l.self.slab.slots;
   may : MayClose l.fn.end (g.T.Timer.may_stop l.fn.timer) l.self.slab.slots;
-  told : AreTold (g.T.MicroClock.tells_micros l.fn.timer) l.self.begins.moments.items;
+  readings : AreReadings (g.T.MicroClock.tells_micros l.fn.timer) l.self.begins.moments.items;
   goes : RunsOn (rules_at l.fn.end (rules_of g.C.Cache.did (world_of g.W.Wire.untouched g.W.Wire.happened (g.T.Clock.tells l.fn.timer)) (g.T.Timer.may_stop l.fn.timer) (g.J.Jobs.job_at l.fn._jobs) (TakesTimed (g.T.MicroClock.tells_micros l.fn.timer) g.R.Results.took)))
       (point l.fn.cache (g.J.Jobs.drawn l.fn._jobs) l.fn.self.slab.slots l.fn.results) (point l.cache (g.J.Jobs.drawn l.fn._jobs) l.self.slab.slots l.results);
   turns : failed_turns g.D.Dial.shown l.dial ≡ failed_turns g.D.Dial.shown l.fn.dial;

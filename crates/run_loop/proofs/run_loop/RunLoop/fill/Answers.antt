@@ -13,7 +13,7 @@ loop-init g c =
     let rules_ = rules_of g.C.Cache.did (world_of g.W.Wire.untouched g.W.Wire.happened (g.T.Clock.tells c.args.timer.now)) (g.T.Timer.may_stop c.args.timer.now) (g.J.Jobs.job_at c.args.jobs.now) (TakesTimed (g.T.MicroClock.tells_micros c.args.timer.now) g.R.Results.took) in
     record {
       kept = search rules;
-      told = search rules;
+      readings = search rules;
       goes = runs_same rules_ (point c.args.cache.now (g.J.Jobs.drawn c.args.jobs.now) c.args.self.now.slab.slots c.args.results.now);
       jobs = search rules;
       fixed = search rules;
@@ -36,7 +36,7 @@ loop-preserved g c =
     let begins = subst (λ (job_at : ℕ → Job). RunsOnWith (rules_of did world may_stop job_at took) number cache slots c.loop.results more c.begin.new.results) (c.draw.ensures.same ∙ c.loop.invariant.jobs) c.begin.ensures.goes in
     record {
       kept = search rules;
-      told = search rules;
+      readings = search rules;
       goes = runs_then rules_ (point cache (g.J.Jobs.drawn c.args.jobs.now) c.args.self.now.slab.slots c.args.results.now) (point cache was slots c.loop.results) (point cache is more c.begin.new.results)
           c.loop.invariant.goes (runs_with rules_ number cache slots more c.loop.results c.begin.new.results was is begins draws.0 draws.1);
       jobs = c.draw.ensures.same ∙ c.loop.invariant.jobs;

@@ -5,17 +5,17 @@ use Rattle.exchange.specs.Transfers.{TransferShown}
 use Rattle.exchange.specs.Worlds.{world_of}
 use Rattle.exchange.specs.Slabs.{AreKept, IsKept}
 use Rattle.run_loop.specs.Going.{rules_of, point, RunsToEnd}
-use Rattle.run_loop.specs.Moments.{AreTold, TakesTimed}
+use Rattle.run_loop.specs.Moments.{AreReadings, TakesTimed}
 use Rattle.run_loop.proofs.run_loop.RunLoop.run.Goals as goal
 
 pub finish-requires : goal.finish-requires
 finish-requires g c =
     let world = world_of g.W.Wire.untouched g.W.Wire.happened (g.T.Clock.tells c.args.timer.now) in
     let home = g.C.Cache.home c.args.cache.now in
-    let tells = g.T.MicroClock.tells_micros c.args.timer.now in
+    let is_reading = g.T.MicroClock.tells_micros c.args.timer.now in
     record {
       kept = subst (λ (slots : List (Option (TransferShown g.row.W.Denot))). AreKept world home slots) (sym c.requires) (All-nil (λ (slot : Option (TransferShown g.row.W.Denot)). IfSome slot (IsKept world home)));
-      told = subst (λ (moments : List (Option ℕ)). AreTold tells moments) (sym c.forget.ensures) (All-replicate (λ (moment : Option ℕ). IfSome moment tells) (length c.args.self.begins.moments.items) None tt);
+      readings = subst (λ (moments : List (Option ℕ)). AreReadings is_reading moments) (sym c.forget.ensures) (All-replicate (λ (moment : Option ℕ). IfSome moment is_reading) (length c.args.self.begins.moments.items) None tt);
     }
 
 pub returns-clause-ends : goal.returns-clause-ends

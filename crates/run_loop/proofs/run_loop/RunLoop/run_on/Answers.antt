@@ -14,7 +14,7 @@ loop-init g c =
     record {
       stays = search rules;
       kept = search rules;
-      told = search rules;
+      readings = search rules;
       goes = subst (λ (slots : List (Option (TransferShown g.row.W.Denot))). RunsOn rules_ first (point c.args.cache.now (g.J.Jobs.drawn c.args.jobs.now) slots c.args.results.now)) (sym c.set_out.ensures.slots) (runs_same rules_ first);
       jobs = search rules;
       fixed = search rules;
@@ -36,7 +36,7 @@ loop-preserved g c =
     record {
       stays = search rules;
       kept = search rules;
-      told = search rules;
+      readings = search rules;
       goes = runs_in_turn did world may_stop took (job_at c.args.jobs.now) (job_at c.loop.jobs) c.loop.invariant.jobs
           (point c.args.cache.now (drawn c.args.jobs.now) c.args.self.now.slab.slots c.args.results.now) (point c.loop.cache (drawn c.loop.jobs) c.loop.self.slab.slots c.loop.results) now c.loop.invariant.goes goes;
       jobs = c.take_round-next.ensures.jobs ∙ c.loop.invariant.jobs;

@@ -3,7 +3,7 @@ use Rattle.exchange.specs.Dialling.{failed_turns}
 use Rattle.exchange.specs.Worlds.{world_of}
 use Rattle.exchange.specs.Slabs.{AreKept}
 use Rattle.run_loop.specs.Going.{rules_of, point, RunsOn}
-use Rattle.run_loop.specs.Moments.{AreTold, TakesTimed}
+use Rattle.run_loop.specs.Moments.{AreReadings, TakesTimed}
 use Rattle.run_loop.specs.Steps.{IfNever}
 use Rattle.run_loop.proofs.run_loop.RunLoop.run_on.Given as goal
 
@@ -11,7 +11,7 @@ abbrev pub invariant-loop : goal.invariant-loop
 invariant-loop g l = record {
   stays : g.C.Cache.home l.cache ≡ g.C.Cache.home l.fn.cache;
   kept : AreKept (world_of g.W.Wire.untouched g.W.Wire.happened (g.T.Clock.tells l.fn.timer)) (g.C.Cache.home l.cache) l.self.slab.slots;
-  told : AreTold (g.T.MicroClock.tells_micros l.fn.timer) l.self.begins.moments.items;
+  readings : AreReadings (g.T.MicroClock.tells_micros l.fn.timer) l.self.begins.moments.items;
   goes : RunsOn (rules_of g.C.Cache.did (world_of g.W.Wire.untouched g.W.Wire.happened (g.T.Clock.tells l.fn.timer)) (g.T.Timer.may_stop l.fn.timer) (g.J.Jobs.job_at l.fn.jobs) (TakesTimed (g.T.MicroClock.tells_micros l.fn.timer) g.R.Results.took))
       (point l.fn.cache (g.J.Jobs.drawn l.fn.jobs) l.fn.self.slab.slots l.fn.results) (point l.cache (g.J.Jobs.drawn l.jobs) l.self.slab.slots l.results);
   jobs : g.J.Jobs.job_at l.jobs ≡ g.J.Jobs.job_at l.fn.jobs;

@@ -15,7 +15,7 @@ loop-place-init g c =
     record {
       stays = search rules;
       kept = search rules;
-      told = search rules;
+      readings = search rules;
       goes = subst (λ (slots : List (Option (TransferShown g.row.W.Denot))). RunsOn rules_ (point c.args.cache.now drawn c.args.self.now.slab.slots c.args.results.now) (point c.args.cache.now drawn slots c.args.results.now)) (sym same)
           (runs_same rules_ (point c.args.cache.now drawn c.args.self.now.slab.slots c.args.results.now));
       turns = search rules;
@@ -29,7 +29,7 @@ loop-place-preserved g c =
     record {
       stays = search rules;
       kept = search rules;
-      told = search rules;
+      readings = search rules;
       goes = runs_then rules_ (point c.args.cache.now drawn c.args.self.now.slab.slots c.args.results.now) (point c.loop-place.cache drawn c.loop-place.self.slab.slots c.loop-place.results)
           (point after.cache drawn after.self.slab.slots after.results) c.loop-place.invariant.goes c.stop_at.ensures.goes;
       turns = search rules;
