@@ -8,6 +8,7 @@ mod results;
 mod run_end;
 mod run_loop;
 mod spares;
+mod time_limit;
 mod timer;
 mod until;
 
@@ -15,5 +16,6 @@ pub use jobs::{Draw, Jobs};
 pub use results::{Results, Span};
 pub use run_end::RunEnd;
 pub use run_loop::RunLoop;
+pub use time_limit::is_late;
 pub use timer::{MicroClock, Timer};
 pub use until::Until;

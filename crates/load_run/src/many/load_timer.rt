@@ -8,7 +8,7 @@ use crate::many::wait_sum::WaitSum;
 use crate::many::watch::{Seen, Watch};
 use bundle::Bundle;
 use exchange::Clock;
-use run_loop::{MicroClock, Timer};
+use run_loop::{MicroClock, Timer, is_late};
 use shared_cache::{Names, SharedCache};
 use socket::PolledWire;
 use std::sync::Wait;
@@ -116,7 +116,7 @@ impl<N: Names, R: Wait, V: Watch, K: MicroClock> Timer for LoadTimer<'_, N, R, V
 
     fn stops(&self, _number: u64, began: u64, now: u64) -> bool {
         match self.times.timeout() {
-            Some(timeout) => now.saturating_sub(began) >= timeout,
+            Some(timeout) => is_late(began, now, timeout),
             None => false,
         }
     }

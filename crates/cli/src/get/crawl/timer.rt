@@ -3,7 +3,7 @@
 ghost use Rattle.std.specs.Prelude.{⊤};
 
 use exchange::Clock;
-use run_loop::{MicroClock, Timer};
+use run_loop::{MicroClock, Timer, is_late};
 use socket::SystemClock;
 use std::sync::atomic::{AtomicBool, Ordering};
 use std::time;
@@ -44,7 +44,7 @@ impl<C: time::Clock> Timer for CrawlTimer<'_, C> {
 
     fn stops(&self, _number: u64, began: u64, now: u64) -> bool {
         let is_known = self.clock.elapsed().is_some();
-        !is_known || now.saturating_sub(began) >= self.limit
+        !is_known || is_late(began, now, self.limit)
     }
 
     fn is_over(&self) -> bool {
