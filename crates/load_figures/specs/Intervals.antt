@@ -24,17 +24,17 @@ capped_slices count other = min (count + other) (2 ^ 32 - 1)
 abbrev pub slice_of : ℕ → ℕ
 slice_of latency = bucket_of (min latency (2 ^ 32 - 1)) / 4
 
--- one more latency, if there is one
-abbrev pub with_latency : Option ℕ → IntervalCounts → IntervalCounts
-with_latency None interval = interval
-with_latency (Some latency) interval = record interval {
+-- one more latency in its slice, if there is one; the greatest one is kept beside the slices
+abbrev pub with_slice : Option ℕ → IntervalCounts → IntervalCounts
+with_slice None interval = interval
+with_slice (Some latency) interval = record interval {
   greatest = max interval.greatest latency;
   slices = slice_set interval.slices (slice_of latency) (capped_slices (slice_index interval.slices (slice_of latency)) 1);
 }
 
 -- one more job that was done
 abbrev pub with_job : Bool → Option ℕ → IntervalCounts → IntervalCounts
-with_job has_failed latency interval = with_latency latency (record interval {
+with_job has_failed latency interval = with_slice latency (record interval {
   requests = capped (interval.requests + 1);
   failed = more_if has_failed interval.failed;
 })

@@ -46,9 +46,9 @@ impl Figures {
     }
 
     /// Counts a job of that host, which ended so many microseconds after the load's start, or after
-    /// its warm-up if it has one. The outcome is that of [`outcome_of`](crate::outcome_of). Only the
-    /// latency of a whole response is recorded. A job of a host past the last is counted among all
-    /// jobs alone. Takes no memory.
+    /// its warm-up if it has one. The outcome is that of [`outcome_of`](crate::outcome_of). Only
+    /// the latency of a whole response is recorded. A job of a host past the last is counted among
+    /// all jobs alone. Takes no memory.
     pub fn count(
         &mut self,
         host: u32,

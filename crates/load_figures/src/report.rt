@@ -84,7 +84,7 @@ pub struct LoadRun {
     pub hosts: Vec<HostRun>,
 }
 
-/// Latencies of jobs that were done, in microseconds.
+/// Latencies of whole responses, in microseconds.
 #[derive(Clone, Copy, Debug, PartialEq, Eq)]
 pub struct Latencies {
     /// What 50 percent do not pass.
@@ -122,7 +122,7 @@ pub struct JobReport {
     pub statuses: [u64; 5],
     /// Jobs without a whole response by their fault, in the order of `FAULT_NAMES`.
     pub faults: [u64; 8],
-    /// Latencies of the jobs done, if there is one.
+    /// Latencies of the whole responses, if there is one.
     pub latencies: Option<Latencies>,
 }
 
@@ -135,7 +135,7 @@ pub struct Bucket {
     pub count: u64,
 }
 
-/// Latencies of the jobs of an interval, in microseconds.
+/// Latencies of the whole responses of an interval, in microseconds.
 #[derive(Clone, Copy, Debug, PartialEq, Eq)]
 pub struct IntervalLatency {
     /// What 50 percent do not pass.
@@ -155,7 +155,7 @@ pub struct IntervalReport {
     pub requests: u64,
     /// Jobs that were done in it and failed.
     pub failed: u64,
-    /// Latencies of the jobs done in it, if there is one.
+    /// Latencies of the whole responses in it, if there is one.
     pub latency: Option<IntervalLatency>,
 }
 

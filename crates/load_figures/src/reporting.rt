@@ -159,7 +159,7 @@ fn interval_report(place: usize, length_us: u64, interval: &Interval) -> Interva
     }
 }
 
-/// The latencies of the jobs of an interval, if there is one.
+/// The latencies of the whole responses of an interval, if there is one.
 fn interval_latency(interval: &Interval) -> Option<IntervalLatency>
     ensures { IfSome result (AreIntervalLatencies interval.now) }
 {

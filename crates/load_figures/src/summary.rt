@@ -5,8 +5,8 @@ use crate::rates::per_second;
 use crate::report::{Build, Latencies, LoadReport};
 use std::fmt;
 
-/// The summary of a load: six lines, each with its line end, and one more if the program was compiled
-/// without proofs.
+/// The summary of a load: six lines, each with its line end, and one more if the program was
+/// compiled without proofs.
 #[derive(Drop)]
 pub struct Summary<'a>(pub &'a LoadReport);
 
