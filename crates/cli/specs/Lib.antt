@@ -22,3 +22,4 @@ pub mod MeasuredWords
 pub mod Resolving
 pub mod MeasuredPlan
 pub mod LoadPlan
+pub mod LoadStatuses

@@ -32,8 +32,9 @@ use std::io::Write;
 /// The status if there is no report, or it was not written whole.
 const FAILED: u8 = 4;
 
-/// Runs a load by `load`, and writes its report to `output` and its note, or the reason why there is
-/// no report, to `errors`. Returns the status: the load's if the report was written whole, else 4.
+/// Runs a load by `load`, and writes its report to `output` and its note, or the reason why there
+/// is no report, to `errors`. Returns the status: the load's if the report was written whole, else
+/// 4.
 pub fn run_load<L: FnOnce(Global, LoadPlan) -> Result<LoadOutcome, LoadFailure>, W: Sink, E: Write>(
     alloc: Global,
     plan: LoadPlan,

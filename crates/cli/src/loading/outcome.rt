@@ -1,6 +1,7 @@
 //! Outcomes of loads.
 
 ghost use Rattle.std.specs.Prelude.{◌≡◌, IfOk};
+ghost use Rattle.cli.specs.LoadStatuses.{status_after};
 
 use crate::loading::failure::LoadFailure;
 use std::alloc::{AllocError, Global};
@@ -20,8 +21,8 @@ pub struct LoadOutcome {
 }
 
 impl LoadOutcome {
-    /// Returns the outcome after a file was written, or was not. A failure is added to the note, and
-    /// makes the status 4 unless it is another failure's already.
+    /// Returns the outcome after a file was written, or was not. A failure is added to the note,
+    /// and the status becomes 4 unless it is another failure's.
     ///
     /// # Errors
     ///
@@ -31,7 +32,9 @@ impl LoadOutcome {
         alloc: Global,
         written: Result<(), LoadFailure>,
     ) -> Result<LoadOutcome, AllocError>
-        ensures { IfOk result (λ outcome. outcome.report ≡ self.report) }
+        ensures report { IfOk result (λ outcome. outcome.report ≡ self.report) }
+        ensures status { IfOk result (λ outcome.
+            outcome.status ≡ status_after written self.status) }
     {
         let Err(failure) = written else {
             return Ok(self);

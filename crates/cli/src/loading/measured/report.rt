@@ -1,6 +1,7 @@
 //! The report of a load of many jobs at once.
 
 ghost use Rattle.std.specs.Prelude.{◌≡◌, IfSome};
+ghost use Rattle.cli.specs.LoadStatuses.{load_status};
 
 use crate::build::{BUILD, VERSION};
 use crate::loading::failure::LoadFailure;
@@ -109,7 +110,11 @@ fn try_outcome(
     if report.jobs.good == 0 {
         note.push_str("run: no good response\n")?;
     }
-    let status = status_of(measured.numbers.fail_above, report);
+    let fails = match measured.numbers.fail_above {
+        Some(hundredths) => fails_above(report, hundredths),
+        None => false,
+    };
+    let status = load_status(fails, report.jobs.good);
     Ok(LoadOutcome {
         report: text,
         note,
@@ -117,12 +122,17 @@ fn try_outcome(
     })
 }
 
-// The status of a load with that report.
-fn status_of(fail_above: Option<u32>, report: &LoadReport) -> u8 {
-    match fail_above {
-        Some(hundredths) if fails_above(report, hundredths) => FAILED_ABOVE,
-        _ if report.jobs.good == 0 => NONE_GOOD,
-        _ => 0,
+// Returns the status of a load with `good` good responses. `fails` is true if more requests failed
+// than may fail.
+fn load_status(fails: bool, good: u64) -> u8
+    ensures { result ≡ load_status fails good }
+{
+    if fails {
+        FAILED_ABOVE
+    } else if good == 0 {
+        NONE_GOOD
+    } else {
+        0
     }
 }
 

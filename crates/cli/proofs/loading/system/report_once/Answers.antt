@@ -21,5 +21,5 @@ returns-in-Ok-after_write g c =
       as_many = c.in-Ok-load_jobs.ensures.count;
       is_loaded = subst (λ (count : ℕ). CarriesOutLoad c.args.options count jobs loaded) hosts
           (subst (λ (given : List Job). CarriesOutLoad c.args.options (length c.deref.result.now) given loaded) c.deref-2.ensures.value c.in_ok-loaded.ensures);
-      report_is = ap string_bytes c.in-Ok-after_write.ensures ∙ c.in-Ok-report.ensures.text ∙ ap (λ (results : List Done). report_text loaded.gathered.hosts.items results) c.deref-3.ensures.value;
+      report_is = ap string_bytes c.in-Ok-after_write.ensures.report ∙ c.in-Ok-report.ensures.text ∙ ap (λ (results : List Done). report_text loaded.gathered.hosts.items results) c.deref-3.ensures.value;
     }
