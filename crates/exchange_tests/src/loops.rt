@@ -9,7 +9,7 @@ use exchange::{Clock, Done, Job, Prepared, Ready};
 use exchange_memory::{Halt, MemoryDial, MemoryWire};
 use futures::task::{Doorbell, Solo};
 use persistence::Method;
-use run_loop::{Draw, Jobs, MicroClock, Results, RunEnd, RunLoop, Span, Timer};
+use run_loop::{Draw, Jobs, MicroClock, Results, RunEnd, RunLoop, Span, Timer, Until, is_late};
 use std::alloc::{AllocGlobal, Global};
 use std::fmt::Write;
 use std::process::Abort;
@@ -97,6 +97,17 @@ struct Report {
     lines: u64,
     /// Whether no moment of a job is before an earlier one.
     is_ordered: bool,
+}
+
+impl Report {
+    // A report without lines.
+    fn new(alloc: Global) -> Report {
+        Report {
+            text: String::new(alloc),
+            lines: 0,
+            is_ordered: true,
+        }
+    }
 }
 
 // Whether the moments of a job stand in their order.
@@ -216,7 +227,7 @@ impl Timer for Limited {
     ghost may_stop = { λ limited job. job ≡ limited.number };
 
     fn stops(&self, number: u64, began: u64, now: u64) -> bool {
-        number == self.number && now.saturating_sub(began) >= self.limit
+        number == self.number && is_late(began, now, self.limit)
     }
 
     fn is_over(&self) -> bool {
@@ -279,11 +290,7 @@ fn run_by<R: Abort + AllocGlobal + RandomSource + Wait, T: Timer>(
     let task = Solo::new(rt, Doorbell::spinning()).expect(rt, "a task");
     let mut pool = pool_of(rt, 1);
     let mut jobs = Listed::new(rt, count);
-    let mut report = Report {
-        text: String::new(rt.alloc()),
-        lines: 0,
-        is_ordered: true,
-    };
+    let mut report = Report::new(rt.alloc());
     let places = RunLoop::new(rt.alloc(), 2, task).expect(rt, "memory");
     let end = places.run(rt, &mut pool, dial, &mut jobs, &mut report, timer);
     (end, report)
@@ -318,6 +325,64 @@ fn a_run_that_is_broken_off_cancels_what_is_under_way(rt: HostRuntime) {
     let (end, report) = run_of(&rt, 4, 1, true, &mut dial);
     check_eq(&rt, end, RunEnd::BrokenOff);
     check_eq(&rt, report.text.as_str(), "1: Cancelled\n0: Cancelled\n");
+}
+
+/// The event that a call waits for, and the results of two jobs when it returns.
+static EVENTS: [(Until, &str); 3] = [
+    (Until::Begun, ""),
+    (Until::Freed, "0: 200, 2 bytes, new\n"),
+    (
+        Until::Ended,
+        "0: 200, 2 bytes, new\n\
+         1: 200, 2 bytes, reused\n",
+    ),
+];
+
+// Carries out two jobs by a call that returns after that event, and another call until their end.
+// Returns the report of the first call, and that of both.
+fn run_after<R: Abort + AllocGlobal + RandomSource + Wait>(
+    rt: &R,
+    until: Until,
+) -> (String, String) {
+    let task = Solo::new(rt, Doorbell::spinning()).expect(rt, "a task");
+    let timer = Looks {
+        left: AtomicU64::new(MANY),
+        is_fault: false,
+    };
+    let mut pool = pool_of(rt, 1);
+    let mut dial = dial_for(rt, 2);
+    let mut jobs = Listed::new(rt, 2);
+    let mut report = Report::new(rt.alloc());
+    // with a place more than jobs, the first round finds that no job is left
+    let mut run = RunLoop::new(rt.alloc(), 3, task).expect(rt, "memory");
+    let end = run.run_on(
+        until,
+        rt,
+        &mut pool,
+        &mut dial,
+        &mut jobs,
+        &mut report,
+        &timer,
+    );
+    check_eq(rt, end, RunEnd::Complete);
+    let first = String::from_str(rt.alloc(), report.text.as_str()).expect(rt, "memory");
+    let end = run.finish(rt, &mut pool, &mut dial, &mut jobs, &mut report, &timer);
+    check_eq(rt, end, RunEnd::Complete);
+    (first, report.text)
+}
+
+#[test]
+fn a_call_returns_after_what_it_waits_for(rt: HostRuntime) {
+    for (until, lines) in &EVENTS {
+        let (first, both) = run_after(&rt, *until);
+        check_eq(&rt, first.as_str(), *lines);
+        check_eq(
+            &rt,
+            both.as_str(),
+            "0: 200, 2 bytes, new\n\
+             1: 200, 2 bytes, reused\n",
+        );
+    }
 }
 
 // Two ends, and the worse of them.
