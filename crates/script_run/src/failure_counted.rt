@@ -7,8 +7,11 @@ ghost use Rattle.std.specs.Io.{ReadsAtMost, WritesAtMost};
 ghost use Rattle.script_run.specs.Streams.{CanCount, CountsFailure};
 ghost use Rattle.script_run.specs.Watching.{watched};
 
+use libc::net::{POLLIN, poll};
+use libc::types::pollfd;
 use std::io::{self, Read, Write};
 use std::marker::Model;
+use std::os::fd::{AsRawFd, RawFd};
 
 /// A read failed.
 #[derive(Clone, Copy, Debug, PartialEq, Eq)]
@@ -19,12 +22,14 @@ pub struct ReadFailed;
 pub struct WriteFailed;
 
 /// A reader or writer of the system, with the number of its reads or writes that failed. Contracts
-/// see the two, and not the reason for the last failure.
+/// see the two, and neither the reason for the last failure nor the descriptor.
 #[derive(Drop)]
 pub struct FailureCounted<S> {
     stream: S,
     failures: u64,
     last_error: Option<io::Error>,
+    // The stream's, if it is to be polled.
+    descriptor: Option<RawFd>,
 }
 
 impl<S> Model for FailureCounted<S> {
@@ -44,13 +49,45 @@ impl<S> FailureCounted<S> {
             stream,
             failures: 0,
             last_error: None,
+            descriptor: None,
         }
+    }
+
+    /// True if a read now does not wait: there are bytes, the end, or an error. Always true of a
+    /// stream without a descriptor to poll. Never true if the poll itself fails, as a signal can
+    /// make it (the manual page poll(2)).
+    pub fn is_ready(&self) -> bool {
+        let Some(fd) = self.descriptor else {
+            return true;
+        };
+        let mut asked = [pollfd {
+            fd,
+            events: POLLIN,
+            revents: 0,
+        }];
+        poll(&mut asked, 0) > 0
     }
 
     /// The system's reason for the last read or write that failed. None if nothing failed, or if a
     /// write took no byte.
     pub fn last_error(&self) -> Option<io::Error> {
         self.last_error
+    }
+}
+
+impl<S: AsRawFd> FailureCounted<S> {
+    /// Wraps a stream of which nothing has failed yet. [`FailureCounted::is_ready`] polls its
+    /// descriptor.
+    pub fn with_descriptor(stream: S) -> FailureCounted<S>
+        ensures { result ≡ record { stream = stream; failures = 0 } }
+    {
+        let descriptor = Some(stream.as_raw_fd());
+        FailureCounted {
+            stream,
+            failures: 0,
+            last_error: None,
+            descriptor,
+        }
     }
 }
 

@@ -68,7 +68,7 @@ impl ScriptFiles for SystemFiles<'_> {
 
     fn open(&mut self, name: &str) -> io::Result<FailureCounted<File>> {
         let file = fs::open(self.rt, name)?;
-        Ok(FailureCounted::new(file))
+        Ok(FailureCounted::with_descriptor(file))
     }
 
     fn is_regular(&self, name: &str) -> bool {

@@ -34,6 +34,12 @@ pub trait Source {
             (source self.new).bytes result buf.new }
         ensures failures { CountsFailure (source self.old) (source self.new) result };
 
+    /// True if a read now does not wait: there are bytes, or the end. A source in memory never
+    /// waits.
+    fn is_ready(&self) -> bool {
+        true
+    }
+
     /// The system's reason for the last read that failed, if it gave one.
     fn last_error(&self) -> Option<io::Error> {
         None
@@ -86,6 +92,10 @@ impl<R: Read> Source for FailureCounted<R> {
 
     fn read_some(&mut self, buf: &mut [u8]) -> Result<usize, ReadFailed> {
         self.read(buf)
+    }
+
+    fn is_ready(&self) -> bool {
+        self.is_ready()
     }
 
     fn last_error(&self) -> Option<io::Error> {
