@@ -404,6 +404,7 @@ impl<W: Wire> RunLoop<W> {
             return;
         }
         results.take(number, Done::Bad(Fault::Memory), no_span(timer));
+        self.has_news = true;
     }
 
     // Lets a transfer of the job of that number join, if there is memory for it. Returns true if it
