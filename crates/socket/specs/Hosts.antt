@@ -71,3 +71,7 @@ list_of (Some addresses) = addresses.items
 
 abbrev pub addresses_at : List (Vec SocketAddr) → ℕ → List SocketAddr
 addresses_at hosts site = list_of (slice_get hosts site)
+
+-- each host has the addresses that it had
+abbrev pub KeepsHosts : List (Vec SocketAddr) → List (Vec SocketAddr) → Type 0
+KeepsHosts old new = (site : ℕ) → addresses_at new site ≡ addresses_at old site

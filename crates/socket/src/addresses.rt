@@ -1,9 +1,10 @@
 //! The addresses of hosts, by site.
 
-ghost use Rattle.std.specs.Prelude.{◌≡◌, ◌==◌, [], ◌∷◌, ◌++◌, length, IfOk, IfErr, OnOk, OnErr};
-ghost use Rattle.std.specs.Prelude.{IfSome, IfNone, string_bytes};
+ghost use Rattle.std.specs.Prelude.{◌≡◌, ◌≢◌, ◌==◌, ◌<◌, ℕ, [], ◌∷◌, ◌++◌, length, string_bytes};
+ghost use Rattle.std.specs.Prelude.{IfOk, IfErr, IfSome, IfNone, OnOk, OnErr};
 ghost use Rattle.std.specs.declared.net.ip_addr.IpAddr.{IpAddr};
-ghost use Rattle.socket.specs.Hosts.{IsLiteral, Names, AddsHost, HasNoAddress, addresses_at};
+ghost use Rattle.socket.specs.Hosts.{IsLiteral, Names, AddsHost, HasNoAddress, KeepsHosts};
+ghost use Rattle.socket.specs.Hosts.{addresses_at};
 ghost use Rattle.socket.specs.declared.addresses.AddressFault.TheVariants.{OtherName};
 
 use conn_key::Target;
@@ -64,7 +65,7 @@ impl Addresses {
         ensures unchanged { OnErr result (self.new.hosts.items ≡ self.old.hosts.items) }
     {
         let alloc = *self.hosts.allocator();
-        let addresses = addresses_of(alloc, target.host.as_str(), target.port)?;
+        let addresses = host_addresses(alloc, target.host.as_str(), target.port)?;
         self.push(addresses)?;
         Ok(())
     }
@@ -80,6 +81,40 @@ impl Addresses {
         ensures unchanged { OnErr result (self.new.hosts.items ≡ self.old.hosts.items) }
     {
         self.push(addresses)?;
+        Ok(())
+    }
+
+    /// Gives the host at `place` these addresses in place of those that it had. Hosts in between
+    /// that did not exist yet have no addresses.
+    ///
+    /// # Errors
+    ///
+    /// Out of memory. Each host has the addresses that it had.
+    pub fn set(
+        &mut self,
+        alloc: Global,
+        place: u32,
+        addresses: Vec<SocketAddr>,
+    ) -> Result<(), AllocError>
+        ensures set { OnOk result (addresses_at self.new.hosts.items place ≡ addresses.items) }
+        ensures others { OnOk result ((other : ℕ) → other ≢ place →
+            addresses_at self.new.hosts.items other ≡ addresses_at self.old.hosts.items other) }
+        ensures unchanged { OnErr result (KeepsHosts self.old.hosts.items self.new.hosts.items) }
+    {
+        let place = place as usize;
+        self.grow(alloc, place)?;
+        self.hosts[place] = addresses;
+        Ok(())
+    }
+
+    // Adds hosts without addresses, until there is one at `place`.
+    fn grow(&mut self, alloc: Global, place: usize) -> Result<(), AllocError>
+        ensures there { OnOk result (place < length self.new.hosts.items) }
+        ensures kept { KeepsHosts self.old.hosts.items self.new.hosts.items }
+    {
+        while self.hosts.len() <= place {
+            self.push(Vec::new(alloc))?;
+        }
         Ok(())
     }
 
@@ -120,8 +155,15 @@ impl Addresses {
     }
 }
 
-/// The addresses of that host at that port.
-fn addresses_of(alloc: Global, host: &str, port: u16) -> Result<Vec<SocketAddr>, AddressFault>
+/// Returns the addresses of a host that needs no lookup, in the order in which a dial tries them.
+/// The host is `localhost`, which stands for 127.0.0.1 and then ::1 (RFC 6761, section 6.3), an
+/// IPv4 address, or an IPv6 address in brackets (RFC 3986, section 3.2.2). Each address has the
+/// given port.
+///
+/// # Errors
+///
+/// `OtherName` if the host is none of these, `Memory` if memory ran out.
+pub fn host_addresses(alloc: Global, host: &str, port: u16) -> Result<Vec<SocketAddr>, AddressFault>
     ensures names { IfOk result (λ list. Names host.now port list.items) }
     ensures refused { IfErr result (λ fault. fault ≡ OtherName → HasNoAddress host.now) }
 {

@@ -3,11 +3,13 @@
 ghost use Rattle.std.specs.Prelude.{⊤};
 
 use exchange::Clock;
+use run_loop::MicroClock;
 use std::time::{Duration, Instant};
 use std::{io, time};
 
-/// The time since it was made; as a clock it tells whole seconds and microseconds, 0 if the system
-/// tells no time.
+/// The time since it was made. As a clock it gives whole seconds and microseconds, 0 if the system
+/// gives no time. For a run's time limits it gives microseconds, and the greatest `u64` if the
+/// system gives no time: then all that began before is late.
 #[derive(Drop)]
 pub struct SystemClock<'c, C: time::Clock> {
     clock: &'c C,
@@ -44,6 +46,12 @@ impl<'c, C: time::Clock> SystemClock<'c, C> {
         }
     }
 
+    // Microseconds since it was made, at most the greatest `u64`; none if the system gives no time.
+    fn elapsed_micros(&self) -> Option<u64> {
+        let elapsed = self.elapsed()?;
+        Some(u64::try_from(elapsed.as_micros()).unwrap_or(u64::MAX))
+    }
+
     /// Whether `limit` has passed since it told `since`; it has if the system tells no time.
     pub fn is_past(&self, since: Option<Duration>, limit: Duration) -> bool {
         match (self.elapsed(), since) {
@@ -64,9 +72,14 @@ impl<'c, C: time::Clock> Clock for SystemClock<'c, C> {
     }
 
     fn micros(&self) -> u64 {
-        match self.elapsed() {
-            Some(elapsed) => u64::try_from(elapsed.as_micros()).unwrap_or(u64::MAX),
-            None => 0,
-        }
+        self.elapsed_micros().unwrap_or(0)
+    }
+}
+
+impl<'c, C: time::Clock> MicroClock for SystemClock<'c, C> {
+    ghost tells_micros = { λ clock moment. ⊤ };
+
+    fn moment(&self) -> u64 {
+        self.elapsed_micros().unwrap_or(u64::MAX)
     }
 }

@@ -15,7 +15,7 @@ mod polled;
 mod reasons;
 mod waiting;
 
-pub use addresses::{AddressFault, Addresses};
+pub use addresses::{AddressFault, Addresses, host_addresses};
 pub use alarm::PolledAlarm;
 pub use clock::SystemClock;
 pub use polled::{PolledDial, PolledWire};

@@ -1,6 +1,7 @@
 //! Connections whose reads and writes never wait, in an event loop.
 
-ghost use Rattle.std.specs.Prelude.{◌≡◌, IfSome, IfOk};
+ghost use Rattle.std.specs.Prelude.{◌≡◌, ◌≢◌, ℕ, IfSome, IfOk, OnOk, OnErr};
+ghost use Rattle.socket.specs.Hosts.{KeepsHosts, addresses_at};
 
 use crate::addresses::Addresses;
 use crate::alarm::PolledAlarm;
@@ -14,9 +15,9 @@ use futures::task::Source;
 use mio::net::TcpStream;
 use mio::unix::SourceFd;
 use mio::{Interest, Registry, Token};
-use std::alloc::Global;
+use std::alloc::{AllocError, Global};
 use std::io;
-use std::net::Net;
+use std::net::{Net, SocketAddr};
 use std::os::fd::AsRawFd;
 use std::sync::Arc;
 use std::time::Duration;
@@ -200,15 +201,30 @@ impl<'n, N: Net> PolledDial<'n, N> {
         PolledAlarm::new(&self.registry)
     }
 
-    /// From now on the hosts of the sites have these addresses. A connection that was begun goes on
-    /// with the next of them if its address fails.
-    pub fn set_addresses(&mut self, addresses: Addresses)
-        ensures addresses { self.new.connector.addresses ≡ addresses }
+    /// Gives the host at `place` these addresses in place of those that it had. A connection that
+    /// was begun there goes on with the next of them if its address fails.
+    ///
+    /// # Errors
+    ///
+    /// Out of memory. Each host has the addresses that it had.
+    pub fn set_host(
+        &mut self,
+        alloc: Global,
+        place: u32,
+        addresses: Vec<SocketAddr>,
+    ) -> Result<(), AllocError>
+        ensures set { OnOk result (addresses_at self.new.connector.addresses.hosts.items place
+            ≡ addresses.items) }
+        ensures others { OnOk result ((other : ℕ) → other ≢ place →
+            addresses_at self.new.connector.addresses.hosts.items other
+            ≡ addresses_at self.old.connector.addresses.hosts.items other) }
+        ensures unchanged { OnErr result (KeepsHosts self.old.connector.addresses.hosts.items
+            self.new.connector.addresses.hosts.items) }
         ensures counts { self.new.connector.counts ≡ self.old.connector.counts }
         ensures pending { self.new.connector.pending ≡ self.old.connector.pending }
         ensures source { self.new.source ≡ self.old.source }
     {
-        self.connector.addresses = addresses;
+        self.connector.addresses.set(alloc, place, addresses)
     }
 
     /// How many connections it has opened; the count stays at the greatest `u64`.

@@ -1,6 +1,7 @@
 //! A clock over a system that tells no time.
 
 use exchange::Clock;
+use run_loop::MicroClock;
 use socket::SystemClock;
 use std::time::Duration;
 use std::{io, time};
@@ -29,10 +30,11 @@ fn a_clock_stands_still_if_the_system_tells_no_time(rt: HostRuntime) {
     let system = System { told: None };
     let clock = SystemClock::or_still(&system);
     assert!(rt; clock.now() == 0 && clock.micros() == 0 && clock.elapsed().is_none());
+    assert!(rt; clock.moment() == u64::MAX);
     assert!(rt; SystemClock::new(&system).is_err());
     let system = System {
         told: Some(Duration::from_secs(9)),
     };
     let clock = SystemClock::or_still(&system);
-    assert!(rt; clock.elapsed() == Some(Duration::from_secs(0)));
+    assert!(rt; clock.elapsed() == Some(Duration::from_secs(0)) && clock.moment() == 0);
 }

@@ -7,13 +7,13 @@ use crate::checks::check_eq;
 use crate::servers::beside::beside;
 use budget::Limits;
 use cache::Pool;
-use client::fetch_many;
 use conn_key::{CountedMemory, read_target};
 use conn_log::Want;
 use exchange::{Clock, Done, Job, Prepared};
+use futures::task::{Doorbell, Solo};
 use loopback_server::Server;
 use persistence::Method;
-use run_loop::{Draw, Jobs, MicroClock, Results, RunEnd, Span, Timer};
+use run_loop::{Draw, Jobs, MicroClock, Results, RunEnd, RunLoop, Span, Timer};
 use socket::{Addresses, PolledDial, PolledWire};
 use std::alloc::{AllocGlobal, Global};
 use std::io;
@@ -190,16 +190,9 @@ fn run_over<R: RandomSource + AllocGlobal + Wait>(
         other,
         drawn: Vec::new(rt.alloc()),
     };
-    let end = fetch_many(
-        rt,
-        rt.alloc(),
-        2,
-        pool,
-        dial,
-        &mut listed,
-        &mut counts,
-        &Still,
-    )?;
+    let task = Solo::new(rt, Doorbell::spinning())?;
+    let places = RunLoop::new(rt.alloc(), 2, task)?;
+    let end = places.run(rt, pool, dial, &mut listed, &mut counts, &Still);
     Ok((end, counts))
 }
 

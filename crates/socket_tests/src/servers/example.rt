@@ -43,7 +43,7 @@ fn plan(rt: &HostRuntime, urls: &[String]) -> anyhow::Result<(Vec<Job>, Addresse
 }
 
 /// Fetches the URLs, each for 30 seconds at most, and tells how each transfer ended.
-fn fetch_all(rt: &HostRuntime, urls: &[String]) -> anyhow::Result<Vec<Done>> {
+fn fetch_urls(rt: &HostRuntime, urls: &[String]) -> anyhow::Result<Vec<Done>> {
     let (jobs, addresses) = plan(rt, urls)?;
     // At most six connections are open to a site, twenty to all, and four are kept idle.
     let limits = Limits::new(6, 20, 4)?;
@@ -59,7 +59,7 @@ fn fetch_all(rt: &HostRuntime, urls: &[String]) -> anyhow::Result<Vec<Done>> {
 
 fn main(rt: HostRuntime) -> anyhow::Result<()> {
     let urls: Vec<String> = env::args(&rt)?.skip(1).collect(rt.alloc())?;
-    let ends = fetch_all(&rt, &urls)?;
+    let ends = fetch_urls(&rt, &urls)?;
     for (url, end) in urls.iter().zip(ends.iter()) {
         match end {
             Done::Good(it) => println!(rt; "{} {} {} {url}", it.status, it.body_len, it.reused)?,
@@ -70,7 +70,7 @@ fn main(rt: HostRuntime) -> anyhow::Result<()> {
 }
 
 mod tests {
-    use super::fetch_all;
+    use super::fetch_urls;
     use crate::servers::beside::beside;
     use exchange::Done;
     use loopback_server::Server;
@@ -91,7 +91,7 @@ mod tests {
             format!(in rt.alloc(); "http://127.0.0.1:{other}/a")?,
         ];
         let ends = beside(&rt, server, || -> io::Result<anyhow::Result<Vec<Done>>> {
-            Ok(fetch_all(&rt, &urls))
+            Ok(fetch_urls(&rt, &urls))
         })??;
         assert_eq!(rt; ends.len(), 3);
         for (end, &reused) in ends.iter().zip(REUSED.iter()) {
