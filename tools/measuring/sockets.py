@@ -9,8 +9,6 @@ from .load import words_of_load
 
 SITES = 2
 ROUNDS = 41
-# curlpool get fetches at most 1,024 URLs over blocking sockets, and writes a line for each
-OF_GET = (24, 1_024)
 
 
 def words_of_get(program, count, ports):
@@ -21,9 +19,8 @@ def words_of_get(program, count, ports):
 def make_clients():
     """Those over sockets here."""
     program = curlpool()
-    return [Client("curlpool get, blocking sockets", functools.partial(words_of_get, program), counts_of_get,
-                   timed=OF_GET, traced=OF_GET),
-            Client("curlpool load, nonblocking sockets", functools.partial(words_of_load, program, 1, 0), counts_of_load)]
+    return [Client("curlpool get", functools.partial(words_of_get, program), counts_of_get),
+            Client("curlpool load", functools.partial(words_of_load, program, 1, 0), counts_of_load)]
 
 
 def sockets():
