@@ -16,10 +16,9 @@ use Rattle.cli.specs.declared.command_line.request.Request.TheVariants as reques
 use Rattle.cli.specs.declared.command_line.Words.{Words}
 use Rattle.cli.specs.declared.command_line.Words.TheVariants.{NoMemory}
 use Rattle.cli.specs.CommandLine.{AnswersError, AnswersGet, AnswersLoad, Asks, HasClass, PlansGet, Said, audit, file_said, get, load, class_of, nothing, request_file, said_in, script, word_faults}
-use Rattle.cli.specs.GetPlan.{plan_file}
+use Rattle.cli.specs.GetPlans.{plan_file}
 use Rattle.cli.specs.Inputs.{asked_file}
-use Rattle.cli.specs.declared.get.plan.GetPlan.{GetPlan}
-use Rattle.cli.specs.declared.get.plan.GetPlan.TheVariants.{InTurn, Crawl}
+use Rattle.cli.specs.declared.get.plan.CrawlPlan.{CrawlPlan}
 use Rattle.cli.specs.ScriptWords.{script_said_in}
 use Rattle.cli.specs.AuditWords.{audit_said_in}
 use Rattle.cli.specs.GetWords.{GetSaid, get_said_in}
@@ -91,9 +90,8 @@ answers-load words error before mid after requests.NoMemory (inr (kind_is, refus
 answers-load words error before mid after requests.NoMemory why wants kept (inr rises) = rises-from before mid after kept rises
 
 -- a plan of words that say no file reads none
-plan-reads : (said : Said) (plan : GetPlan) → PlansGet said plan → file_said said ≡ None → plan_file plan ≡ None
-plan-reads (get said) (InTurn plan) is none = refl
-plan-reads (get said) (Crawl plan) is none = ap asked_file is.file_said ∙ none
+plan-reads : (said : Said) (plan : CrawlPlan) → PlansGet said plan → file_said said ≡ None → plan_file plan ≡ None
+plan-reads (get said) plan is none = ap asked_file is.file_said ∙ none
 plan-reads nothing plan is none = absurd is
 plan-reads (script said) plan is none = absurd is
 plan-reads (load said) plan is none = absurd is

@@ -1,8 +1,5 @@
 pub mod CommandLines
-pub mod Fetches
 pub mod Plans
-pub mod Names
-pub mod Crawls
 pub mod GetRows
 pub mod LoadRows
 pub mod LoadPlans
@@ -12,4 +9,3 @@ pub mod LoadRefusals
 pub mod Percentages
 pub mod UrlJobs
 pub mod Resolves
-pub mod CrawlHosts

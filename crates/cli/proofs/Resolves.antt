@@ -1,5 +1,5 @@
--- What values of `--resolve` give, and which of them is given for a host.
-use Rattle.std.proofs.Common.{◌≡◌, ℕ, ◌+◌, ◌<◌, List, [], ◌∷◌, ◌++◌, length, get_or, drop, map, ap, sym, refl, ◌∙◌, subst, inl, inr, string_bytes}
+-- What values of `--resolve` give.
+use Rattle.std.proofs.Common.{◌≡◌, ℕ, ◌<◌, List, [], ◌∷◌, ◌++◌, length, get_or, drop, map, ap, sym, refl, ◌∙◌, subst, inl, inr, string_bytes}
 use Rattle.std.specs.Prelude.{String, Option, None, Some, IfNone}
 use Rattle.std.specs.Global.{Global}
 use Rattle.std.specs.List.{Any}
@@ -7,13 +7,12 @@ use Rattle.std.specs.Net.Grammar.{IsIpText, IsIpv6Text}
 use Rattle.std.specs.declared.net.ip_addr.IpAddr.{IpAddr}
 use Rattle.std.specs.declared.net.ip_addr.IpAddr.TheVariants as Ip
 use Rattle.std.specs.declared.net.ipv6_addr.Ipv6Addr.{Ipv6Addr}
-use Rattle.std.specs.declared.net.socket_addr.SocketAddr.{SocketAddr}
-use Rattle.std.proofs.lemmas.List.{append_cancel_right, drop_more, length-map, get_or-map}
+use Rattle.std.proofs.lemmas.List.{append_cancel_right, length-map, get_or-map}
 use Rattle.clap.specs.Words.{Text}
+use Rattle.client.specs.declared.resolved.Resolved.{Resolved}
 use Rattle.socket.specs.Hosts.{in_brackets}
-use Rattle.cli.specs.Resolving.{AreResolved, IsAddressText, IsGivenAddress, IsGivenFor, IsNoResolve, Resolves, cut_at, host_said, is_colon, ports, resolve_said}
+use Rattle.cli.specs.Resolving.{AreResolved, IsAddressText, IsNoResolve, Resolves, cut_at, host_said, is_colon, ports, resolve_said}
 use Rattle.cli.specs.LoadWords.{number_in}
-use Rattle.cli.specs.declared.command_line.resolving.Resolved.{Resolved}
 
 -- one value more
 pub resolved_more : (texts : List Text) (hosts : List Resolved) (text : Text) (host : Resolved) → AreResolved texts hosts → Resolves text host → AreResolved (texts ++ text ∷ []) (hosts ++ host ∷ [])
@@ -27,19 +26,6 @@ pub other_among : (values : List (String Global)) (k : ℕ) (value : String Glob
     → IsNoResolve (string_bytes value) → Any IsNoResolve (map string_bytes values)
 other_among values k value below at other =
     (k, string_bytes value, subst (λ n. k < n) (sym (length-map values string_bytes)) below, get_or-map string_bytes values k value (string_bytes value) below ∙ ap string_bytes (sym at), other)
-
--- if the one at a place is given for another host, the ones behind it decide
-pub given_behind : (host : Text) (port : ℕ) (list : List Resolved) (k : ℕ) (given : Resolved) → k < length list → given ≡ get_or list k given → (IsGivenFor host port given → ⊥)
-    → (found : Option SocketAddr) → IsGivenAddress host port (drop (k + 1) list) found → IsGivenAddress host port (drop k list) found
-given_behind host port list k given below at other found behind =
-    let is : drop k list ≡ given ∷ drop (k + 1) list = drop_more list k given below ∙ ap (λ (g : Resolved). g ∷ drop (k + 1) list) (sym at) in
-    subst (λ (l : List Resolved). IsGivenAddress host port l found) (sym is) (inr (other, behind))
-
-pub given_there : (host : Text) (port : ℕ) (list : List Resolved) (k : ℕ) (given : Resolved) (found : Option SocketAddr) → k < length list → given ≡ get_or list k given
-    → IsGivenFor host port given → found ≡ Some given.address → IsGivenAddress host port (drop k list) found
-given_there host port list k given found below at its is =
-    let here : drop k list ≡ given ∷ drop (k + 1) list = drop_more list k given below ∙ ap (λ (g : Resolved). g ∷ drop (k + 1) list) (sym at) in
-    subst (λ (l : List Resolved). IsGivenAddress host port l found) (sym here) (inl (its, is))
 
 -- a value with these parts
 pub parts_said : (text host rest port address : Text) (number : ℕ) → host_said text ≡ Some (host, rest) → cut_at is_colon rest ≡ Some (port, address) → number_in ports port ≡ Some number

@@ -11,7 +11,7 @@ use Rattle.conn_key.specs.Target.{GivesTarget}
 use Rattle.conn_key.specs.declared.site.Site.{Site}
 use Rattle.conn_key.specs.declared.target.Target.{Target}
 use Rattle.exchange.specs.declared.job.Job.{Job}
-use Rattle.cli.specs.GetWords.{IsBadUrl, IsPrintable}
+use Rattle.client.specs.Urls.{IsBadUrl, IsPrintable}
 use Rattle.cli.specs.LoadWords.{IsWhyNot}
 use Rattle.cli.specs.MeasuredPlan.{AreBadUrls, AreUrlJobs, IsUrlJob, url_job}
 use Rattle.cli.specs.declared.loading.measured.plan.MeasuredFlags.{MeasuredFlags}

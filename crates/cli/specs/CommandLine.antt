@@ -13,7 +13,7 @@ use Rattle.cli.specs.declared.command_line.Subcommand.{Subcommand}
 use Rattle.cli.specs.declared.command_line.Subcommand.TheVariants as subcommands
 use Rattle.cli.specs.declared.command_line.Words.{Words}
 use Rattle.cli.specs.declared.command_line.Words.TheVariants.{Given, NotText, NoMemory}
-use Rattle.cli.specs.declared.get.plan.GetPlan.{GetPlan}
+use Rattle.cli.specs.declared.get.plan.CrawlPlan.{CrawlPlan}
 use Rattle.cli.specs.declared.loading.plan.LoadPlan.{LoadPlan}
 use Rattle.cli.specs.declared.command_line.request.ErrorClass.{ErrorClass}
 use Rattle.cli.specs.declared.command_line.request.ErrorClass.TheVariants as manners
@@ -22,7 +22,7 @@ use Rattle.cli.specs.declared.command_line.request.Request.TheVariants as reques
 use Rattle.script_run.specs.Streams.{Stream}
 use Rattle.script_run.specs.Running.{RunsScript}
 use Rattle.script_run.specs.Files.{RunsFile}
-use Rattle.cli.specs.GetPlan.{IsPlanOf, plan_file}
+use Rattle.cli.specs.GetPlans.{IsPlanOf, plan_file}
 use Rattle.cli.specs.GetWords.{GetSaid, IsRefused, crawl_file, get_said_by, get_said_in}
 use Rattle.cli.specs.CrawlWords.{no_crawl}
 use Rattle.cli.specs.Loading.{WritesText}
@@ -189,7 +189,7 @@ RefusesSaid _ = ⊥
 
 -- or it asks for this
 
-abbrev pub PlansGet : Said → GetPlan → Type 0
+abbrev pub PlansGet : Said → CrawlPlan → Type 0
 PlansGet (get said) plan = IsPlanOf said plan
 PlansGet _ plan = ⊥
 
@@ -265,7 +265,7 @@ AnswersDrawn (Some picture) Opens file traced unread left old new status = Answe
 
 -- what carrying out a plan may read and write, and its status
 abbrev pub PlanRun : Type 1
-PlanRun = GetPlan → Stream → Stream → Stream → Stream → ℕ → Type 0
+PlanRun = CrawlPlan → Stream → Stream → Stream → Stream → ℕ → Type 0
 
 -- a load was carried out: nothing was read
 pub record AnswersPlan (Runs : Stream → Stream → ℕ → Type 0) (unread left old new : Stream) (status : ℕ) : Type 0 where
@@ -277,22 +277,21 @@ abbrev pub LoadRun : Type 1
 LoadRun = LoadPlan → Stream → Stream → ℕ → Type 0
 
 -- what is done for a request, and the status: a script is run, a plan or a load carried out, or a trace judged; help or the
--- version is told; words that are refused, and want of memory while they are read, end the program at once; the network is left alone,
--- but for a plan
-abbrev pub AnswersRequest : Opening → PlanRun → Type 0 → LoadRun → Request → Stream → Stream → Stream → Stream → ℕ → Type 0
-AnswersRequest Opens Runs Alone Loads (requests.Script words) unread left old new status = AnswersDrawn (option_map string_bytes words.picture) Opens (name_of words.input) words.is_traced unread left old new status × Alone
-AnswersRequest Opens Runs Alone Loads (requests.Get plan) unread left old new status = Runs plan unread left old new status
-AnswersRequest Opens Runs Alone Loads (requests.Load options) unread left old new status = AnswersPlan (Loads options) unread left old new status × Alone
-AnswersRequest Opens Runs Alone Loads (requests.Audit words) unread left old new status = AnswersAudit Opens (name_of words.input) words.telling unread left old new status × Alone
-AnswersRequest Opens Runs Alone Loads (requests.Tell text) unread left old new status = TellsText (string_bytes text) unread left old new status × Alone
-AnswersRequest Opens Runs Alone Loads (requests.Refuse text) unread left old new status = EndsAtOnce 2 unread left old new status × Alone
-AnswersRequest Opens Runs Alone Loads requests.NoMemory unread left old new status = EndsAtOnce 4 unread left old new status × Alone
+-- version is told; words that are refused, and want of memory while they are read, end the program at once
+abbrev pub AnswersRequest : Opening → PlanRun → LoadRun → Request → Stream → Stream → Stream → Stream → ℕ → Type 0
+AnswersRequest Opens Runs Loads (requests.Script words) unread left old new status = AnswersDrawn (option_map string_bytes words.picture) Opens (name_of words.input) words.is_traced unread left old new status
+AnswersRequest Opens Runs Loads (requests.Get plan) unread left old new status = Runs plan unread left old new status
+AnswersRequest Opens Runs Loads (requests.Load options) unread left old new status = AnswersPlan (Loads options) unread left old new status
+AnswersRequest Opens Runs Loads (requests.Audit words) unread left old new status = AnswersAudit Opens (name_of words.input) words.telling unread left old new status
+AnswersRequest Opens Runs Loads (requests.Tell text) unread left old new status = TellsText (string_bytes text) unread left old new status
+AnswersRequest Opens Runs Loads (requests.Refuse text) unread left old new status = EndsAtOnce 2 unread left old new status
+AnswersRequest Opens Runs Loads requests.NoMemory unread left old new status = EndsAtOnce 4 unread left old new status
 
 -- what the program does with words that have these faults and say so, and its status: what is done for a request that
 -- they may ask for, where so many wants of memory were counted before they were read and after
-abbrev pub RunsProgram : Opening → PlanRun → Type 0 → LoadRun → Kinds → Said → ℕ → ℕ → Stream → Stream → Stream → Stream → ℕ → Type 0
-RunsProgram Opens Runs Alone Loads faults said before after unread left old new status =
-    (request : Request) × Asks faults said before after request × AnswersRequest Opens Runs Alone Loads request unread left old new status
+abbrev pub RunsProgram : Opening → PlanRun → LoadRun → Kinds → Said → ℕ → ℕ → Stream → Stream → Stream → Stream → ℕ → Type 0
+RunsProgram Opens Runs Loads faults said before after unread left old new status =
+    (request : Request) × Asks faults said before after request × AnswersRequest Opens Runs Loads request unread left old new status
 
 -- small command lines
 abbrev pub faults_after : List (List ℕ) → Kinds

@@ -1,15 +1,15 @@
 -- What the words after `get` say of a crawl: many URLs, many at once, of a file.
-use Rattle.std.specs.Prelude.{◌≡◌, ◌⊎◌, ◌||◌, ◌^◌, ℕ, Some, Bool, true, false, codes, not, List, [], ◌∷◌, is_some, map, string_bytes, Option, None, unwrap_or}
+use Rattle.std.specs.Prelude.{◌≡◌, ◌⊎◌, ◌^◌, ℕ, Some, Bool, false, codes, List, [], map, string_bytes, Option, None, unwrap_or}
 use Rattle.std.specs.List.{Any}
 use Rattle.std.specs.Option.{option_map}
 use Rattle.clap.specs.Words.{Row, Text}
 use Rattle.clap.specs.Walk.{all_of, first_of}
 use Rattle.cli.specs.Inputs.{is_set}
+use Rattle.client.specs.declared.options.CrawlFlags.{CrawlFlags}
 use Rattle.script_text.specs.Words.{number}
 use Rattle.cli.specs.LoadRanges.{limit_range}
 use Rattle.cli.specs.LoadWords.{number_said}
 use Rattle.cli.specs.Resolving.{IsNoResolve}
-use Rattle.cli.specs.declared.get.crawl.plan.CrawlFlags.{CrawlFlags}
 use Rattle.cli.specs.declared.get.words.CrawlWords.{CrawlWords}
 use Rattle.cli.specs.declared.loading.range.NumberRange.{NumberRange}
 
@@ -58,21 +58,6 @@ crawl_said_by words = record {
 -- nothing is said of one
 abbrev pub no_crawl : CrawlSaid
 no_crawl = record { file = None; parallel = None; host_limit = None; total = None; max_life = None; resolve = []; fresh = false; skip_bad = false; fail = false; json = false }
-
--- whether there are none
-abbrev pub is_empty_list : {A : Type 0} → List A → Bool
-is_empty_list [] = true
-is_empty_list (first ∷ others) = false
-
--- whether something is
-abbrev pub has_crawl_value : CrawlSaid → Bool
-has_crawl_value said = is_some said.file || (is_some said.parallel || (is_some said.host_limit || (is_some said.total || is_some said.max_life)))
-
-abbrev pub has_crawl_flag : CrawlSaid → Bool
-has_crawl_flag said = said.fresh || (said.skip_bad || (said.fail || said.json))
-
-abbrev pub asks_crawl : CrawlSaid → Bool
-asks_crawl said = has_crawl_value said || (has_crawl_flag said || not (is_empty_list said.resolve))
 
 -- how many transfers may be under way at once
 abbrev pub parallel_range : NumberRange

@@ -1,17 +1,15 @@
 -- What the words after `get` say, and when they are refused.
-use Rattle.std.specs.Prelude.{◌≡◌, ◌≢◌, ◌⊎◌, ◌<◌, ◌^◌, ◌&&◌, ℕ, Bool, true, false, nat_le, codes, List, [], length, map, string_bytes, Option, None, Some, unwrap_or, if◌then◌else◌}
-use Rattle.std.specs.Str.{chars}
-use Rattle.std.specs.List.{Any, list_any}
+use Rattle.std.specs.Prelude.{◌≡◌, ◌⊎◌, ◌^◌, ◌&&◌, ℕ, Bool, false, nat_le, codes, List, [], map, string_bytes, Option, None, Some, unwrap_or, if◌then◌else◌}
+use Rattle.std.specs.List.{Any}
 use Rattle.std.specs.Option.{option_and_then, option_map}
 use Rattle.clap.specs.Words.{Row, Text}
 use Rattle.clap.specs.Walk.{all_of, first_of}
-use Rattle.conn_key.specs.Target.{Refuses}
-use Rattle.conn_key.specs.declared.target.KeyError.{KeyError}
-use Rattle.conn_key.specs.declared.target.KeyError.TheVariants.{Memory}
+use Rattle.conn_key.specs.Target.{GivesTarget}
+use Rattle.conn_key.specs.declared.target.Target.{Target}
+use Rattle.client.specs.Urls.{IsBadUrl, IsPrintable}
 use Rattle.script_text.specs.Words.{number}
 use Rattle.cli.specs.Inputs.{asked_file, is_set}
 use Rattle.cli.specs.CrawlWords.{CrawlSaid, IsCrawlRefused, crawl_said_by, crawl_said_in}
-use Rattle.cli.specs.Printable.{is_unprintable}
 use Rattle.cli.specs.declared.get.words.GetWords.{GetWords}
 
 -- whether HEAD is to be sent, the numbers as they were given, and the URLs
@@ -54,22 +52,23 @@ abbrev pub timeout_said : Option Text → Option ℕ
 timeout_said None = Some 30
 timeout_said (Some text) = option_and_then if_hour (number (2 ^ 64) text)
 
--- a text that a terminal prints as it is
-abbrev pub IsPrintable : Text → Type 0
-IsPrintable text = list_any is_unprintable (chars text) ≡ false
-
--- the text is no URL that leads to a target; or it has a control character
-abbrev pub IsBadUrl : Text → Type 0
-IsBadUrl url = ((error : KeyError) × Refuses url error × (error ≢ Memory)) ⊎ (list_any is_unprintable (chars url) ≡ true)
-
 -- there is neither a URL nor a file of them
 abbrev pub NamesNone : GetSaid → Type 0
 NamesNone said = (said.urls ≡ []) × (said.crawl.file ≡ None)
 
--- a number is out of its range, the URLs are more than 1,024, one of them is bad, or there is none
+-- a URL that can be fetched: it is printable, and leads to a target
+abbrev pub IsGoodUrl : Text → Type 0
+IsGoodUrl url = IsPrintable url × ((target : Target) × GivesTarget url target)
+
+-- a URL is bad, and bad ones are not skipped
+abbrev pub HasBadUrl : GetSaid → Type 0
+HasBadUrl said = (said.crawl.skip_bad ≡ false) × Any IsBadUrl said.urls
+
+-- a number is out of its range, a URL is bad that is not skipped, there is none, or a value of `--resolve` gives no
+-- address
 abbrev pub IsRefused : GetSaid → Type 0
 IsRefused said = ((max_age_said said.max_age ≡ None) ⊎ (timeout_said said.timeout ≡ None))
-    ⊎ (((1024 < length said.urls) ⊎ Any IsBadUrl said.urls) ⊎ (NamesNone said ⊎ IsCrawlRefused said.crawl))
+    ⊎ (HasBadUrl said ⊎ (NamesNone said ⊎ IsCrawlRefused said.crawl))
 
 -- the file that a crawl reads; none is standard input, or none
 abbrev pub crawl_file : GetSaid → Option Text

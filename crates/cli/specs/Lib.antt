@@ -2,15 +2,10 @@ pub mod Inputs
 pub mod AuditWords
 pub mod ScriptWords
 pub mod Auditing
-pub mod Printable
 pub mod CrawlWords
 pub mod GetWords
-pub mod HostNames
-pub mod GetPlan
-pub mod GetLines
+pub mod GetPlans
 pub mod Fetching
-pub mod CrawlHosts
-pub mod Crawling
 pub mod LoadRanges
 pub mod LoadWords
 pub mod LoadJobs

@@ -1,9 +1,13 @@
 -- The jobs of a load.
-use Rattle.std.specs.Prelude.{◌≡◌, ◌+◌, ◌%◌, ◌++◌, ℕ, codes, List, [], ◌∷◌, length, string_bytes, slice_index}
+use Rattle.std.specs.Prelude.{◌≡◌, ◌+◌, ◌%◌, ◌++◌, ℕ, false, codes, List, [], ◌∷◌, length, string_bytes, slice_index}
 use Rattle.std.specs.Fmt.{decimal}
 use Rattle.persistence.specs.declared.method.Method.TheVariants.{Get}
 use Rattle.exchange.specs.declared.job.Job.{Job}
-use Rattle.cli.specs.GetPlan.{want_said}
+use Rattle.conn_log.specs.declared.entry.Want.{Want}
+
+-- the transfer with that number reuses a connection that was idle for at most `max_age` seconds, whatever its age
+abbrev pub want_said : ℕ → ℕ → Want
+want_said number max_age = record { transfer = number; max_age = max_age; max_life = 0; lane = 0; fresh = false; forbid_reuse = false }
 
 -- job k is transfer k, which asks for the path /k of the site that is k modulo their number, on this machine, at the site's
 -- port; it reuses a connection that was idle for at most 118 seconds, whatever its age

@@ -10,8 +10,9 @@ use Rattle.conn_key.specs.Target.{GivesTarget}
 use Rattle.conn_key.specs.declared.site.Site.{Site}
 use Rattle.conn_key.specs.declared.target.Target.{Target}
 use Rattle.script_text.specs.Words.{number}
-use Rattle.cli.specs.GetPlan.{method_said, want_said}
-use Rattle.cli.specs.GetWords.{IsBadUrl, IsPrintable}
+use Rattle.client.specs.Urls.{IsBadUrl, IsPrintable}
+use Rattle.cli.specs.GetPlans.{method_said}
+use Rattle.cli.specs.LoadJobs.{want_said}
 use Rattle.cli.specs.LoadRanges.{connections_range, rate_range, seconds_range, timeout_range, warmup_range}
 use Rattle.cli.specs.LoadWords.{IsOutside, number_in, number_said}
 use Rattle.cli.specs.MeasuredWords.{MeasuredSaid, asks_measured, has_any}

@@ -1,16 +1,14 @@
 -- The addresses that values of `--resolve` give for hosts: HOST:PORT:ADDRESS.
-use Rattle.std.specs.Prelude.{◌≡◌, ◌⊎◌, ◌==◌, ℕ, Bool, nat_lt, codes, List, [], ◌∷◌, ◌++◌, length, map, string_bytes, Option, None, Some, if◌then◌else◌}
+use Rattle.std.specs.Prelude.{◌≡◌, ◌⊎◌, ◌==◌, ℕ, Bool, nat_lt, codes, List, [], ◌∷◌, ◌++◌, length, string_bytes, Option, None, Some, if◌then◌else◌}
 use Rattle.std.specs.List.{Any, after_first, before_first, position_or_len, slice_index}
 use Rattle.std.specs.Option.{option_and_then, option_map}
-use Rattle.std.specs.Char.{to_ascii_lowercase}
 use Rattle.std.specs.Net.Grammar.{IsIpText}
-use Rattle.std.specs.Net.Socket.{socket_ip, socket_port, IsPlainSocket}
+use Rattle.std.specs.Net.Socket.{socket_ip, IsPlainSocket}
 use Rattle.std.specs.declared.net.ip_addr.IpAddr.{IpAddr}
-use Rattle.std.specs.declared.net.socket_addr.SocketAddr.{SocketAddr}
 use Rattle.clap.specs.Words.{Text}
 use Rattle.socket.specs.Hosts.{IsLiteral}
+use Rattle.client.specs.declared.resolved.Resolved.{Resolved}
 use Rattle.cli.specs.LoadWords.{number_in}
-use Rattle.cli.specs.declared.command_line.resolving.Resolved.{Resolved}
 use Rattle.cli.specs.declared.command_line.resolving.ResolveFault.{ResolveFault}
 use Rattle.cli.specs.declared.command_line.resolving.ResolveFault.TheVariants.{Memory, OtherForm}
 use Rattle.cli.specs.declared.command_line.resolving.ResolveText.{ResolveText}
@@ -95,18 +93,6 @@ IsWhyNotResolved texts (OtherForm text) = Any IsNoResolve texts
 -- what the parts of a value say
 abbrev pub said_by : ResolveText → ResolveSaid
 said_by parts = record { host = parts.name.now ++ parts.end.now; port = parts.port; address = parts.address.now }
-
--- an address is given for that host, in whatever case, and port
-abbrev pub IsGivenFor : Text → ℕ → Resolved → Type 0
-IsGivenFor host port given =
-    (socket_port given.address ≡ port) × (map to_ascii_lowercase (string_bytes given.host) ≡ map to_ascii_lowercase host)
-
--- the address of the first that is given for that host and port; none if none is
-abbrev pub IsGivenAddress : Text → ℕ → List Resolved → Option SocketAddr → Type 0
-IsGivenAddress host port [] found = found ≡ None
-IsGivenAddress host port (given ∷ rest) found =
-    (IsGivenFor host port given × (found ≡ Some given.address))
-    ⊎ ((IsGivenFor host port given → ⊥) × IsGivenAddress host port rest found)
 
 -- small values
 abbrev pub ReadsResolves : Type 0

@@ -11,7 +11,6 @@ pub(crate) mod flags;
 pub(crate) mod help;
 pub(crate) mod memory;
 pub(crate) mod mistake;
-pub(crate) mod printable;
 pub(crate) mod request;
 pub(crate) mod resolving;
 pub(crate) mod system_words;

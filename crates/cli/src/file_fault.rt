@@ -1,6 +1,6 @@
 //! Messages for files that cannot be read or written.
 
-use crate::command_line::printable::Escaped;
+use client::Escaped;
 use std::alloc::{AllocError, Global};
 use std::io::{Error, Write};
 

@@ -18,6 +18,7 @@ pub(crate) mod range;
 pub(crate) mod subcommand;
 pub(crate) mod system;
 pub(crate) mod tracing;
+pub(crate) mod want;
 pub(crate) mod words;
 
 use failure::LoadFailure;

@@ -11,8 +11,7 @@ use crate::auditing::answer_audit;
 use crate::command_line::Words;
 use crate::command_line::memory::ArgsAlloc;
 use crate::command_line::request::{Request, asked_by};
-use crate::get::fetching::Network;
-use crate::get::run_plan;
+use crate::get::run_get;
 use crate::loading::failure::LoadFailure;
 use crate::loading::outcome::LoadOutcome;
 use crate::loading::plan::LoadPlan;
@@ -20,6 +19,7 @@ use crate::loading::run_load;
 use crate::script::answer_script;
 use crate::script::input::ScriptInput;
 use crate::script::words::ScriptWords;
+use client::Network;
 use script_run::{ScriptFiles, Sink, Source};
 use std::alloc::Global;
 use std::io::Write;
@@ -65,7 +65,7 @@ pub fn run_program<
     words: Words,
     is_typed: bool,
     files: &mut F,
-    network: &mut N,
+    network: &N,
     load: L,
     input: &mut R,
     output: &mut W,
@@ -75,10 +75,10 @@ pub fn run_program<
     requires output { CanCount (W.sink output.old) }
     requires load { L.IsAlwaysCallable load }
     ensures runs { RunsProgram (F.opens files.old files.new)
-        (RunsGet N.opens N.Fetcher.fetched N.closes network.old network.new)
-        (network.new ≡ network.old) (RunsLoad (L.post load alloc)) (word_faults words) (said words)
-        (M.wants memory.old) (M.wants memory.new) (R.source input.old) (R.source input.new)
-        (W.sink output.old) (W.sink output.new) result }
+        (RunsGet N.Crawler.crawled N.Crawler.finished (F.opens files.old files.new))
+        (RunsLoad (L.post load alloc)) (word_faults words) (said words) (M.wants memory.old)
+        (M.wants memory.new) (R.source input.old) (R.source input.new) (W.sink output.old)
+        (W.sink output.new) result }
     ensures unopened { file_said (said words) ≡ None → files.new ≡ files.old }
 {
     let request = asked_by(memory, words);
@@ -113,7 +113,7 @@ pub fn answer_request<
     alloc: Global,
     request: Request,
     files: &mut F,
-    network: &mut N,
+    network: &N,
     load: L,
     input: &mut R,
     output: &mut W,
@@ -123,14 +123,14 @@ pub fn answer_request<
     requires output { CanCount (W.sink output.old) }
     requires load { L.IsAlwaysCallable load }
     ensures answers { AnswersRequest (F.opens files.old files.new)
-        (RunsGet N.opens N.Fetcher.fetched N.closes network.old network.new)
-        (network.new ≡ network.old) (RunsLoad (L.post load alloc)) request
-        (R.source input.old) (R.source input.new) (W.sink output.old) (W.sink output.new) result }
+        (RunsGet N.Crawler.crawled N.Crawler.finished (F.opens files.old files.new))
+        (RunsLoad (L.post load alloc)) request (R.source input.old) (R.source input.new)
+        (W.sink output.old) (W.sink output.new) result }
     ensures unopened { request_file request ≡ None → files.new ≡ files.old }
 {
     match request {
         Request::Script(words) => answer_script(alloc, words, files, input, output, errors),
-        Request::Get(plan) => { run_plan(alloc, plan, network, files, input, output, errors) },
+        Request::Get(plan) => run_get(alloc, plan, network, files, input, output, errors),
         Request::Load(plan) => run_load(alloc, plan, load, output, errors),
         Request::Audit(words) => answer_audit(alloc, words, files, input, output, errors),
         Request::Tell(text) => tell(text.as_str(), output, errors),

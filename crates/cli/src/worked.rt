@@ -9,7 +9,6 @@ ghost use Rattle.cli.specs.CommandLine.{TakesUrls, TakesCrawl, RefusesTwice};
 ghost use Rattle.cli.specs.CommandLine.{TakesNumbers, WantsNumber, RefusesNumberTwice};
 ghost use Rattle.cli.specs.CommandLine.{TakesMeasured};
 ghost use Rattle.cli.specs.CommandLine.{TakesTrace, RefusesFlagTwice, TakesTraceFlag, TakesPicture};
-ghost use Rattle.cli.specs.GetLines.{TellsResponses, TellsFaults};
 ghost use Rattle.cli.specs.MeasuredPlan.{ReadsPercentages, RefusesPercentages};
 ghost use Rattle.cli.specs.Resolving.{ReadsResolves, RefusesResolves};
 
@@ -64,10 +63,4 @@ pub fn worked_percentages()
 pub fn worked_resolves()
     ensures read { ReadsResolves }
     ensures refused { RefusesResolves }
-{}
-
-/// The lines of transfers that ended so, by computation.
-pub fn worked_lines()
-    ensures responses { TellsResponses }
-    ensures faults { TellsFaults }
 {}

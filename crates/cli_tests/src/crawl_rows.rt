@@ -2,7 +2,7 @@
 
 use crate::checks::check_eq;
 use crate::running::{ROW, Row, Text, check, check_stopped};
-use cli::NetworkFault;
+use client::NetworkFault;
 use std::sync::atomic::Ordering;
 
 /// Two URLs, of which the second ends first.
@@ -96,7 +96,7 @@ fn a_crawl_tells_of_responses(rt: HostRuntime) {
 }
 
 /// Words, what standard input gives, the lines, what is told of them, and the status.
-static FAULTS: [(&str, &str, &str, &str, u8); 11] = [
+static FAULTS: [(&str, &str, &str, &str, u8); 12] = [
     (
         "get --parallel 2 http://127.0.0.1/dial http://127.0.0.1/bb",
         "",
@@ -120,15 +120,22 @@ static FAULTS: [(&str, &str, &str, &str, u8); 11] = [
         "run: 1 of 2 failed\n",
         4,
     ),
-    // what hangs does not hold up the next window
+    // what hangs does not hold up the others
     (
-        "get --skip-bad http://127.0.0.1/late ftp://x http://127.0.0.1/a",
+        "get --skip-bad --parallel 2 http://127.0.0.1/late ftp://x http://127.0.0.1/a",
         "",
-        "BadUrl ftp://x\n200 2 reused http://127.0.0.1/a\n200 5 new http://127.0.0.1/late\n",
+        "BadUrl ftp://x\n200 2 new http://127.0.0.1/a\n200 5 reused http://127.0.0.1/late\n",
         "run: 1 of 3 failed\n",
         4,
     ),
-    // but for a read that may wait
+    // unless one transfer is in flight at a time: lines stand in the order of the URLs
+    (
+        "get --skip-bad http://127.0.0.1/late ftp://x http://127.0.0.1/a",
+        "",
+        "200 5 new http://127.0.0.1/late\nBadUrl ftp://x\n200 2 reused http://127.0.0.1/a\n",
+        "run: 1 of 3 failed\n",
+        4,
+    ),
     (
         "get --file - http://127.0.0.1/late",
         "http://127.0.0.1/a\n",
@@ -277,7 +284,7 @@ fn a_crawl_looks_a_name_up_once(rt: HostRuntime) {
         ..ROW
     };
     let (network, _) = check(&rt, &row);
-    check_eq(&rt, network.lookups.load(Ordering::SeqCst), 2);
+    check_eq(&rt, network.names.lookups.load(Ordering::SeqCst), 2);
 }
 
 #[test]

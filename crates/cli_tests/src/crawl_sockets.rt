@@ -1,15 +1,10 @@
 //! Gets and crawls over sockets of the system, of a server beside them.
 
-ghost use Rattle.std.specs.Prelude.{⊤};
-
 use crate::checks::check_eq;
-use crate::networks::found_for;
+use crate::networks::FakeNames;
 use crate::running::words_of;
-use cli::{
-    CountedArgsAlloc, CrawlOptions, LoadFault, Network, NetworkFault, Resolver, SystemCrawler,
-    SystemFetcher, SystemNetwork, run_program, site_addresses,
-};
-use conn_key::Sites;
+use cli::{CountedArgsAlloc, LoadFault, SystemNetwork, run_program};
+use client::{CrawlOptions, LookUps, Network, NetworkFault};
 use loopback_server::Server;
 use script_run::SystemFiles;
 use std::alloc::{AllocError, AllocGlobal, Global};
@@ -18,7 +13,7 @@ use std::net::{IpAddr, Ipv4Addr, SocketAddr, TcpListener};
 use std::process::Abort;
 use std::random::RandomSource;
 use std::sync::Wait;
-use std::sync::atomic::{AtomicBool, AtomicU32, Ordering};
+use std::sync::atomic::{AtomicBool, Ordering};
 use std::thread::{Builder, Threads, scope_env};
 use std::{io, str, thread};
 
@@ -42,72 +37,48 @@ fn file_of(alloc: Global, ports: &[u16]) -> Result<String, AllocError> {
     Ok(file)
 }
 
-// The network of the system, but for its resolver.
+// The network of the system, but for its names.
 #[derive(Drop)]
-struct NamedNetwork<'a, H: Wait + RandomSource + AllocGlobal> {
-    system: &'a HostRuntime,
-    network: SystemNetwork<'a, H>,
-    // How many names were looked up.
-    lookups: AtomicU32,
+struct NamedNetwork<'s, 'a: 's, H: Wait + RandomSource + AllocGlobal> {
+    network: SystemNetwork<'s, 'a, H>,
+    names: FakeNames,
 }
 
-impl<H: Wait + RandomSource + AllocGlobal> Resolver for NamedNetwork<'_, H> {
-    fn look_up(&self, alloc: Global, host: &str) -> Result<Vec<SocketAddr>, AllocError> {
-        self.lookups.fetch_add(1, Ordering::SeqCst);
-        found_for(alloc, host)
-    }
-}
+impl<'s, 'a: 's, H: Wait + RandomSource + AllocGlobal> Network for NamedNetwork<'s, 'a, H> {
+    type Crawler = <SystemNetwork<'s, 'a, H> as Network>::Crawler;
 
-impl<'a, H: Wait + RandomSource + AllocGlobal> Network for NamedNetwork<'a, H> {
-    type Fetcher = SystemFetcher<'a>;
-
-    type Crawler = SystemCrawler<'a, H>;
-
-    ghost opens = { λ _ _ _ _ _. ⊤ };
-
-    ghost closes = { λ _ _ _. ⊤ };
+    type Names = FakeNames;
 
     fn open(
-        &mut self,
-        alloc: Global,
-        sites: &Sites,
-        timeout: u32,
-    ) -> Result<SystemFetcher<'a>, NetworkFault> {
-        let Ok(addresses) = site_addresses(alloc, sites, self) else {
-            return Err(NetworkFault::Memory);
-        };
-        SystemFetcher::new(self.system, alloc, addresses, timeout)
-    }
-
-    fn close(&mut self, fetcher: SystemFetcher<'a>) {
-        self.network.close(fetcher)
-    }
-
-    fn open_crawler(
-        &mut self,
+        &self,
         alloc: Global,
         options: CrawlOptions,
-    ) -> Result<SystemCrawler<'a, H>, NetworkFault> {
-        self.network.open_crawler(alloc, options)
+        hosts: u32,
+    ) -> Result<Self::Crawler, NetworkFault> {
+        self.network.open(alloc, options, hosts)
+    }
+
+    fn names(&self) -> &FakeNames {
+        &self.names
     }
 }
 
 // What a get with these words, and that standard input, writes, its status, and how many names it
 // looks up.
-fn get<R: RandomSource + AllocGlobal + Wait>(
-    waits: &R,
+fn get<H: RandomSource + AllocGlobal + Wait>(
+    waits: &H,
     system: &HostRuntime,
     words: &str,
     input: &str,
 ) -> io::Result<(u8, Vec<u8>, u32)> {
     let alloc = system.alloc();
     let words = words_of(alloc, words)?;
+    let look_ups = LookUps::new(waits, alloc);
     let mut memory = CountedArgsAlloc::new(alloc);
     let mut files = SystemFiles::new(system);
-    let mut network = NamedNetwork {
-        system,
-        network: SystemNetwork::new(system, waits),
-        lookups: AtomicU32::new(0),
+    let network = NamedNetwork {
+        network: SystemNetwork::new(system, waits, &look_ups, false),
+        names: FakeNames::new(alloc),
     };
     let mut input = input.as_bytes();
     let mut output = Vec::new(alloc);
@@ -118,13 +89,13 @@ fn get<R: RandomSource + AllocGlobal + Wait>(
         words,
         false,
         &mut files,
-        &mut network,
+        &network,
         |_, _| Err(LoadFault::Listen.into()),
         &mut input,
         &mut output,
         &mut errors,
     );
-    Ok((status, output, network.lookups.load(Ordering::SeqCst)))
+    Ok((status, output, network.names.lookups.load(Ordering::SeqCst)))
 }
 
 // What the client returns, beside which the server serves on a thread of its own.

@@ -1,16 +1,15 @@
 //! A crawler without a network: how a transfer ends stands in its path.
 
 ghost use Rattle.std.specs.Prelude.{⊤, true};
-ghost use Rattle.cli.specs.Crawling.{TakesAll};
+ghost use Rattle.client.specs.Results.{TakesAll};
 
 use crate::networks::FakeFetcher;
-use cli::{Crawler, NetworkFault};
+use client::{Crawler, NetworkFault, Signals};
 use exchange::{Done, Fault, Job, Phases, Reason};
-use run_loop::{Results, Span};
+use run_loop::{Results, Span, Until};
 use site_table::Places;
-use socket::Addresses;
-use std::alloc::Global;
-use std::sync::atomic::{AtomicBool, Ordering};
+use std::alloc::{AllocError, Global};
+use std::net::SocketAddr;
 
 /// The paths of transfers whose connections fail, and the reason of each.
 static REASONS: [(&str, Reason); 4] = [
@@ -46,7 +45,7 @@ fn phases_of(done: Done) -> Phases {
     }
 }
 
-/// The path of a transfer that ends only once all have to.
+/// The path of a transfer that ends only once nothing else is to be done.
 const LATE: &str = "/late";
 
 /// How a transfer ended.
@@ -84,21 +83,21 @@ impl FakeCrawler {
         }
     }
 
-    // Carries out the job at that place, if there is one, and none was told to end.
+    // Carries out the job at that place, if there is one, and the crawl goes on.
     #[tactic(auto, using(crate::proofs::Takes::takes_none, crate::proofs::Takes::takes_one))]
-    fn fetch<R: Results>(
+    fn fetch<R: Results, S: Signals>(
         &mut self,
         jobs: &[Job],
         place: usize,
         results: &mut R,
-        has_ended: &AtomicBool,
+        signals: &S,
     )
         ensures { TakesAll (λ told. ⊤) R.took results.old results.new }
     {
         let Some(job) = jobs.get(place) else {
             return;
         };
-        if has_ended.load(Ordering::SeqCst) {
+        if signals.is_over() {
             return;
         }
         let ending = self.ending_of(job);
@@ -147,37 +146,39 @@ impl Places for FakeCrawler {
 impl Crawler for FakeCrawler {
     ghost stands = { λ crawler. ⊤ };
 
-    ghost dials = { λ crawler addresses. ⊤ };
+    ghost dials = { λ crawler place addresses. ⊤ };
 
     ghost crawled = { λ old new jobs told. ⊤ };
 
     ghost finished = { λ crawler told. ⊤ };
 
-    fn set_addresses(&mut self, _addresses: Addresses) {}
+    fn set_host(&mut self, _place: u32, _addresses: Vec<SocketAddr>) -> Result<(), AllocError> {
+        Ok(())
+    }
 
     fn prune(&mut self) {}
 
-    fn crawl<R: Results>(
+    fn crawl<R: Results, S: Signals>(
         &mut self,
         jobs: &[Job],
-        to_end: bool,
+        until: Until,
         results: &mut R,
-        has_ended: &AtomicBool,
+        signals: &S,
     ) -> Result<(), NetworkFault> {
         for place in 0..jobs.len() {
             let turned = self.turned(place, jobs.len());
-            self.fetch(jobs, turned, results, has_ended);
+            self.fetch(jobs, turned, results, signals);
         }
-        if to_end {
+        if jobs.is_empty() || until == Until::Ended {
             self.end_late(results);
         }
         Ok(())
     }
 
-    fn finish<R: Results>(
+    fn finish<R: Results, S: Signals>(
         self,
         results: &mut R,
-        _has_ended: &AtomicBool,
+        _signals: &S,
     ) -> Result<(), NetworkFault> {
         let mut crawler = self;
         crawler.end_late(results);

@@ -2,7 +2,8 @@
 
 use crate::checks::check_eq;
 use crate::running::{ROW, Row, Text, check, check_stopped, check_words};
-use cli::{NetworkFault, Words};
+use cli::Words;
+use client::NetworkFault;
 use std::alloc::{AllocError, Global};
 use std::sync::atomic::Ordering;
 
@@ -127,7 +128,7 @@ fn lines_tell_of_faults(rt: HostRuntime) {
 }
 
 #[test]
-fn sites_and_seconds_are_handed_on(rt: HostRuntime) {
+fn hosts_and_seconds_are_handed_on(rt: HostRuntime) {
     let row = Row {
         name: "three URLs of two sites",
         words: "get --timeout 7 http://127.0.0.1/ http://[::1]/ http://127.0.0.1/b",
@@ -135,24 +136,15 @@ fn sites_and_seconds_are_handed_on(rt: HostRuntime) {
         ..ROW
     };
     let (network, _) = check(&rt, &row);
-    check_eq(
-        &rt,
-        (network.openings, network.sites, network.timeout),
-        (1, 2, 7),
-    );
-    check_eq(&rt, (network.closings, network.fetches), (1, 3));
+    check_eq(&rt, network.opened(), (1, 3, 7));
     let row = Row {
-        name: "1,024 URLs",
+        name: "1,025 URLs",
         output: Text::Start("200 1 new http://127.0.0.1/\n"),
         ..ROW
     };
-    let words = many_urls(rt.alloc(), 1_024).expect(&rt, "memory");
+    let words = many_urls(rt.alloc(), 1_025).expect(&rt, "memory");
     let (network, _) = check_words(&rt, words, &row);
-    check_eq(
-        &rt,
-        (network.openings, network.sites, network.timeout),
-        (1, 1, 30),
-    );
+    check_eq(&rt, network.opened(), (1, 1_024, 30));
 }
 
 /// Words, the lines of their transfers, what is told of failed ones, and how many names are looked
@@ -223,7 +215,8 @@ fn names_are_looked_up_once(rt: HostRuntime) {
             ..ROW
         };
         let (network, _) = check(&rt, &row);
-        assert_eq!(rt; network.lookups.load(Ordering::SeqCst), lookups, "{words}");
+        let asked = network.names.lookups.load(Ordering::SeqCst);
+        assert_eq!(rt; asked, lookups, "{words}");
     }
 }
 
@@ -245,17 +238,8 @@ fn words_are_refused(rt: HostRuntime) {
             ..ROW
         };
         let (network, _) = check(&rt, &row);
-        assert_eq!(rt; network.openings, 0, "{words}");
+        assert_eq!(rt; network.openings.load(Ordering::SeqCst), 0, "{words}");
     }
-    let row = Row {
-        name: "1,025 URLs",
-        errors: Text::Whole("curlpool: more than 1024 URLs\n"),
-        status: 2,
-        ..ROW
-    };
-    let words = many_urls(rt.alloc(), 1_025).expect(&rt, "memory");
-    let (network, _) = check_words(&rt, words, &row);
-    check_eq(&rt, network.openings, 0);
 }
 
 /// Why the network can't be opened, and what is told of it.
@@ -276,8 +260,7 @@ fn a_network_that_cannot_be_opened(rt: HostRuntime) {
             status: 4,
             ..ROW
         };
-        let (network, _) = check(&rt, &row);
-        check_eq(&rt, (network.closings, network.fetches), (0, 0));
+        let _ = check(&rt, &row);
     }
 }
 

@@ -368,17 +368,10 @@ fn addresses_are_given(rt: HostRuntime) {
     for (value, host, address) in &RESOLVED {
         let words = format!(in rt.alloc(); "load --resolve {value}").expect(&rt, "memory");
         let given = words_of(rt.alloc(), words.as_str()).expect(&rt, "memory");
-        let mut network = FakeNetwork::new(None);
+        let network = FakeNetwork::new(rt.alloc(), None);
         let mut loader = FakeLoader::new(Ok("all\n"));
         let mut output = Vec::new(rt.alloc());
-        let (status, _) = run(
-            rt.alloc(),
-            given,
-            "",
-            &mut network,
-            &mut loader,
-            &mut output,
-        );
+        let (status, _) = run(rt.alloc(), given, "", &network, &mut loader, &mut output);
         assert_eq!(rt; status, 0, "{value}");
         let measured = loader.measured.as_ref().expect(&rt, "measured");
         let resolved = measured.resolved.first().expect(&rt, "an address");

@@ -1,15 +1,13 @@
 //! A network without sockets: the path of a URL says how its transfer ends.
 
-ghost use Rattle.std.specs.Prelude.{◌≡◌, ⊤};
-
 use crate::crawlers::FakeCrawler;
 use budget::Refusal;
-use cli::{CrawlOptions, Fetcher, Network, NetworkFault, Resolver, site_addresses};
-use client::Fetched;
-use conn_key::Sites;
-use exchange::{Answer, Done, Fault, Job};
+use client::{Answer, CrawlOptions, Fetched, Names, Network, NetworkFault};
+use exchange::{Done, Fault, Job};
 use persistence::{Facts, Framing, Method, Version};
 use std::alloc::{AllocError, Global};
+use std::cell::RefCell;
+use std::collections::VecDeque;
 use std::net::{IpAddr, Ipv4Addr, Ipv6Addr, SocketAddr};
 use std::sync::atomic::{AtomicU32, Ordering};
 
@@ -53,43 +51,95 @@ const FACTS: Facts = Facts {
 #[derive(Drop)]
 pub struct FakeNetwork {
     fault: Option<NetworkFault>,
-    /// How often it was opened, for how many sites, and with which timeout.
-    pub openings: u32,
-    pub sites: usize,
-    pub timeout: u32,
-    /// How many transfers a crawl may have under way at once.
-    pub parallel: u32,
-    /// How often a fetcher was closed, and what the last one had fetched.
-    pub closings: u32,
-    pub fetches: u32,
-    /// How many names it was asked for.
-    pub lookups: AtomicU32,
+    pub names: FakeNames,
+    /// How often it was opened.
+    pub openings: AtomicU32,
+    /// Number of hosts for which it has places.
+    pub hosts: AtomicU32,
+    /// Time limit of a transfer, in seconds.
+    pub timeout: AtomicU32,
+    /// Maximum number of transfers in flight.
+    pub parallel: AtomicU32,
 }
 
 impl FakeNetwork {
-    pub fn new(fault: Option<NetworkFault>) -> FakeNetwork {
+    pub fn new(alloc: Global, fault: Option<NetworkFault>) -> FakeNetwork {
         FakeNetwork {
             fault,
-            openings: 0,
-            sites: 0,
-            timeout: 0,
-            parallel: 0,
-            closings: 0,
-            fetches: 0,
+            names: FakeNames::new(alloc),
+            openings: AtomicU32::new(0),
+            hosts: AtomicU32::new(0),
+            timeout: AtomicU32::new(0),
+            parallel: AtomicU32::new(0),
+        }
+    }
+
+    /// How often it was opened, for how many hosts, and with which timeout.
+    pub fn opened(&self) -> (u32, u32, u32) {
+        (
+            self.openings.load(Ordering::SeqCst),
+            self.hosts.load(Ordering::SeqCst),
+            self.timeout.load(Ordering::SeqCst),
+        )
+    }
+}
+
+/// Looks up each name as it is asked for.
+#[derive(Drop)]
+pub struct FakeNames {
+    alloc: Global,
+    /// Number of names that it was asked for.
+    pub lookups: AtomicU32,
+    answers: RefCell<VecDeque<Answer>>,
+}
+
+impl FakeNames {
+    pub fn new(alloc: Global) -> FakeNames {
+        FakeNames {
+            alloc,
             lookups: AtomicU32::new(0),
+            answers: RefCell::new(VecDeque::new(alloc)),
         }
     }
 }
 
-impl Resolver for FakeNetwork {
-    fn look_up(&self, alloc: Global, host: &str) -> Result<Vec<SocketAddr>, AllocError> {
+impl Names for FakeNames {
+    ghost use Rattle.std.specs.Prelude.{⊤};
+
+    ghost found = { λ name addresses. ⊤ };
+
+    fn ask(&self, name: &str) -> Result<(), AllocError> {
         self.lookups.fetch_add(1, Ordering::SeqCst);
-        found_for(alloc, host)
+        let answer = Answer {
+            name: String::from_str(self.alloc, name)?,
+            found: found_for(self.alloc, name)?,
+        };
+        let Ok(mut answers) = self.answers.try_borrow_mut() else {
+            return Err(AllocError);
+        };
+        answers.push_back(answer)?;
+        Ok(())
     }
+
+    fn answer(&self) -> Option<Answer> {
+        match self.answers.try_borrow_mut() {
+            Ok(mut answers) => answers.pop_front(),
+            Err(_) => None,
+        }
+    }
+
+    fn has_answer(&self) -> bool {
+        match self.answers.try_borrow() {
+            Ok(answers) => !answers.is_empty(),
+            Err(_) => false,
+        }
+    }
+
+    fn wait(&self) {}
 }
 
 /// The addresses of a name: ::1 and then 127.0.0.1, unless it is unknown.
-pub fn found_for(alloc: Global, host: &str) -> Result<Vec<SocketAddr>, AllocError> {
+fn found_for(alloc: Global, host: &str) -> Result<Vec<SocketAddr>, AllocError> {
     let mut found = Vec::new(alloc);
     if host != UNKNOWN {
         let first = IpAddr::V6(Ipv6Addr::new(0, 0, 0, 0, 0, 0, 0, 1));
@@ -101,75 +151,41 @@ pub fn found_for(alloc: Global, host: &str) -> Result<Vec<SocketAddr>, AllocErro
 }
 
 impl Network for FakeNetwork {
-    type Fetcher = FakeFetcher;
-
     type Crawler = FakeCrawler;
 
-    ghost opens = { λ _ _ _ _ _. ⊤ };
-
-    ghost closes = { λ _ new fetcher. new.fetches ≡ fetcher.fetches };
+    type Names = FakeNames;
 
     fn open(
-        &mut self,
-        alloc: Global,
-        sites: &Sites,
-        timeout: u32,
-    ) -> Result<FakeFetcher, NetworkFault> {
-        let Ok(addresses) = site_addresses(alloc, sites, self) else {
-            return Err(NetworkFault::Memory);
-        };
-        self.openings = self.openings.saturating_add(1);
-        self.sites = addresses.len();
-        self.timeout = timeout;
-        match self.fault {
-            Some(fault) => Err(fault),
-            None => Ok(FakeFetcher::new()),
-        }
-    }
-
-    fn close(&mut self, fetcher: FakeFetcher) {
-        self.closings = self.closings.saturating_add(1);
-        self.fetches = fetcher.fetches;
-    }
-
-    fn open_crawler(
-        &mut self,
+        &self,
         alloc: Global,
         options: CrawlOptions,
+        hosts: u32,
     ) -> Result<FakeCrawler, NetworkFault> {
-        self.openings = self.openings.saturating_add(1);
-        self.timeout = options.timeout;
-        self.parallel = options.parallel;
+        self.openings.fetch_add(1, Ordering::SeqCst);
+        self.hosts.store(hosts, Ordering::SeqCst);
+        self.timeout.store(options.timeout, Ordering::SeqCst);
+        self.parallel.store(options.parallel, Ordering::SeqCst);
         match self.fault {
             Some(fault) => Err(fault),
             None => Ok(FakeCrawler::new(alloc, options.parallel)),
         }
     }
+
+    fn names(&self) -> &FakeNames {
+        &self.names
+    }
 }
 
-/// Keeps one connection to each of the first sites, and counts what it fetches.
+/// Keeps one connection to each of the first sites.
 #[derive(Drop)]
 pub struct FakeFetcher {
     open: [bool; 64],
-    fetches: u32,
-}
-
-impl Fetcher for FakeFetcher {
-    ghost fetched = { λ _ _ _ _. ⊤ };
-
-    fn fetch(&mut self, job: &Job) -> Fetched {
-        self.fetches = self.fetches.saturating_add(1);
-        self.answer(job)
-    }
 }
 
 impl FakeFetcher {
     /// None is open.
     pub fn new() -> FakeFetcher {
-        FakeFetcher {
-            open: [false; 64],
-            fetches: 0,
-        }
+        FakeFetcher { open: [false; 64] }
     }
 
     /// What comes of a job.
@@ -199,7 +215,7 @@ impl FakeFetcher {
             Method::Head => 0,
         };
         let retried = path == "/again";
-        let done = Done::Good(Answer {
+        let done = Done::Good(exchange::Answer {
             status: if path == "/404" { 404 } else { 200 },
             body_len,
             facts: FACTS,

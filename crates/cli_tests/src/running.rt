@@ -7,7 +7,8 @@ use crate::audits::BROKEN;
 use crate::loads::FakeLoader;
 use crate::networks::FakeNetwork;
 use crate::streams::Expecting;
-use cli::{CountedArgsAlloc, LoadFault, NetworkFault, Words, run_program};
+use cli::{CountedArgsAlloc, LoadFault, Words, run_program};
+use client::NetworkFault;
 use script_run::{FailureCounted, ScriptFiles, Sink};
 use std::alloc::{AllocError, AllocGlobal, Global};
 use std::io::{self, Write};
@@ -122,7 +123,7 @@ pub fn run<W: Sink>(
     alloc: Global,
     words: Words,
     script: &str,
-    network: &mut FakeNetwork,
+    network: &FakeNetwork,
     loader: &mut FakeLoader<'_>,
     output: &mut W,
 ) -> (u8, Vec<u8>)
@@ -163,14 +164,14 @@ pub fn check_words<R: Abort + AllocGlobal>(
     words: Words,
     row: &Row,
 ) -> (FakeNetwork, FakeLoader<'static>) {
-    let mut network = FakeNetwork::new(row.network);
+    let network = FakeNetwork::new(rt.alloc(), row.network);
     let mut loader = FakeLoader::new(row.load);
     let mut output = Vec::new(rt.alloc());
     let (status, errors) = run(
         rt.alloc(),
         words,
         row.script,
-        &mut network,
+        &network,
         &mut loader,
         &mut output,
     );
@@ -196,14 +197,14 @@ pub fn check_stopped<R: Abort + AllocGlobal>(
 ) {
     let words = words_of(rt.alloc(), row.words).expect(rt, "memory");
     let mut writer = Expecting::new(written, takes_none);
-    let mut network = FakeNetwork::new(row.network);
+    let network = FakeNetwork::new(rt.alloc(), row.network);
     let mut loader = FakeLoader::new(row.load);
     let mut output = FailureCounted::new(&mut writer);
     let (status, errors) = run(
         rt.alloc(),
         words,
         row.script,
-        &mut network,
+        &network,
         &mut loader,
         &mut output,
     );

@@ -45,6 +45,19 @@ fn a_reader_that_fails_in_the_middle(rt: HostRuntime) {
     assert!(rt; result == Err(fault) && out.is_empty());
 }
 
+#[test]
+fn a_polled_source_is_ready_for_bytes_and_the_end(rt: HostRuntime) {
+    let (reader, mut writer) = io::pipe(&rt).expect(&rt, "a pipe");
+    let mut input = FailureCounted::with_descriptor(reader);
+    assert!(rt; !input.is_ready());
+    writer.write_all(b"x").expect(&rt, "a write");
+    assert!(rt; input.is_ready());
+    let mut piece = [0; 2];
+    assert!(rt; input.read(&mut piece) == Ok(1) && !input.is_ready());
+    drop(writer);
+    assert!(rt; input.is_ready());
+}
+
 /// Takes what goes on as expected, a byte at a time, and then no byte, or fails.
 #[derive(Drop)]
 pub struct Expecting {

@@ -1,12 +1,30 @@
-//! A client of one thread: it sends one request after another, and keeps its connections. Many
-//! requests at once go over one pool as well.
+//! Clients: one sends one request after another and keeps its connections; a crawl fetches any
+//! number of URLs over one cache, many at once.
 #![tactic(auto)]
 
 mod client;
+mod crawl;
 mod fetched;
-mod many;
+mod options;
+mod printable;
+mod resolved;
 mod time_limit;
+mod url;
+mod worked;
 
 pub use client::Client;
+pub use crawl::crawler::{Crawler, Signals};
+pub use crawl::fault::{CrawlFault, NetworkFault};
+pub use crawl::host_cache::{HostCache, HostDial};
+pub use crawl::in_flight::Tally;
+pub use crawl::look_ups::LookUps;
+pub use crawl::loop_crawler::LoopCrawler;
+pub use crawl::names::{Answer, Names, Resolver};
+pub use crawl::network::Network;
+pub use crawl::{Crawl, Crawled};
 pub use fetched::Fetched;
-pub use many::fetch_many;
+pub use options::{CrawlFlags, CrawlOptions, UrlFile};
+pub use printable::{Escaped, has_unprintable, is_unprintable, write_escaped};
+pub use resolved::{Resolved, resolved_of};
+pub use url::{UrlFault, url_target};
+pub use worked::worked_lines;

@@ -2,16 +2,37 @@
 //! through a pool, and puts a shared cache under load.
 #![tactic(auto)]
 
-use cli::{CountedArgsAlloc, SystemNetwork, given_words, load_on_system, run_program};
+use cli::{
+    CountedArgsAlloc, SystemNetwork, SystemResolver, given_words, load_on_system, look_up_threads,
+    run_program,
+};
+use client::LookUps;
 use script_run::{FailureCounted, SystemFiles};
 use std::fs::{self, File};
 use std::io::{self, IsTerminal};
 use std::process::ExitCode;
+use std::sync::Wait;
+use std::thread::{self, Builder, Scope, scope_env};
 
 /// Takes a descriptor, which can be neither read nor written. One of a standard stream that was
 /// closed would else be the next socket's, and a server would get what is told.
 fn taken_descriptor(rt: &HostRuntime) -> io::Result<File> {
     fs::open(rt, "/")
+}
+
+/// Starts threads that look up names, at most `threads`. Returns true if one was started.
+fn start_threads<'s, 'a: 's, E: 's, H: Wait + Sync>(
+    scope: &'s Scope<'s, E>,
+    look_ups: &'s LookUps<'a, H, SystemResolver<'a>>,
+    resolver: SystemResolver<'a>,
+    threads: u32,
+) -> bool {
+    let mut has_threads = false;
+    for _ in 0..threads {
+        let started = Builder::new().spawn_scoped(scope, move || look_ups.serve(&resolver));
+        has_threads |= started.is_ok();
+    }
+    has_threads
 }
 
 fn main(rt: HostRuntime) -> ExitCode {
@@ -20,26 +41,33 @@ fn main(rt: HostRuntime) -> ExitCode {
         taken_descriptor(&rt),
         taken_descriptor(&rt),
     ];
-    let words = given_words(&rt);
-    let mut memory = CountedArgsAlloc::new(rt.alloc());
-    let mut files = SystemFiles::new(&rt);
-    let mut network = SystemNetwork::new(&rt, &rt);
-    let stdin = rt.stdin();
-    let is_typed = stdin.is_terminal();
-    let mut input = FailureCounted::new(stdin);
-    let mut output = FailureCounted::new(rt.stdout());
-    let mut errors = rt.stderr();
-    let status = run_program(
-        rt.alloc(),
-        &mut memory,
-        words,
-        is_typed,
-        &mut files,
-        &mut network,
-        |alloc, plan| load_on_system(&rt, &rt, alloc, plan),
-        &mut input,
-        &mut output,
-        &mut errors,
-    );
+    let look_ups = LookUps::new(&rt, rt.alloc());
+    let status = thread::scope(scope_env(), &rt, |scope| -> u8 {
+        let mut memory = CountedArgsAlloc::new(rt.alloc());
+        let mut files = SystemFiles::new(&rt);
+        let words = given_words(&rt);
+        let threads = look_up_threads(&words);
+        let has_threads = start_threads(scope, &look_ups, SystemResolver::new(&rt), threads);
+        let network = SystemNetwork::new(&rt, &rt, &look_ups, has_threads);
+        let stdin = rt.stdin();
+        let is_typed = stdin.is_terminal();
+        let mut input = FailureCounted::with_descriptor(stdin);
+        let mut output = FailureCounted::new(rt.stdout());
+        let mut errors = rt.stderr();
+        let status = run_program(
+            rt.alloc(),
+            &mut memory,
+            words,
+            is_typed,
+            &mut files,
+            &network,
+            |alloc, plan| load_on_system(&rt, &rt, alloc, plan),
+            &mut input,
+            &mut output,
+            &mut errors,
+        );
+        look_ups.close();
+        status
+    });
     ExitCode::from(status)
 }

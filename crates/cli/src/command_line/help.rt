@@ -154,14 +154,13 @@ STATUS LENGTH reused|new [retried] URL
 FAULT [retried] URL There is no good response
 BadUrl URL          With --skip-bad: the URL is invalid
 
-Any option from --file to --json makes get a crawl, which takes any number of
-URLs: first those of the command line, then the file's, one per line. Empty
-lines and lines that begin with # are skipped. It reads at most 4096 lines
-ahead, while transfers are in flight, but a read that may block, say on a pipe,
-waits until none are. Above 1024, hosts take turns: one's idle connections are
-closed before another takes its slot. A JSON object has the members url, status,
-length, reused, retried, fault, reason, and waited_us, dialled_us, first_byte_us
-and whole_us, each since the transfer began; null if not applicable.
+Any number of URLs is fetched: first those of the command line, then the file's,
+one per line. Empty lines and lines that begin with # are skipped. Up to 256
+URLs are read ahead while transfers are in flight, from standard input or a pipe
+too. Above 1024, hosts take turns: one's idle connections are closed before
+another takes its slot. A JSON object has the members url, status, length,
+reused, retried, fault, reason, and waited_us, dialled_us, first_byte_us and
+whole_us, each since the transfer began; null if not applicable.
 
 FAULT               Why
 Memory              An allocation failed

@@ -1,7 +1,7 @@
 //! What the words are read in: `clap`, and memory for texts.
 
 ghost use Rattle.std.specs.Prelude.{◌≡◌, ◌≤◌, IfOk, IfErr, map, string_bytes};
-ghost use Rattle.cli.specs.GetPlan.{IsPlanOf, IsWhy};
+ghost use Rattle.cli.specs.GetPlans.{IsPlanOf, IsWhy};
 ghost use Rattle.cli.specs.GetWords.{get_said_by};
 ghost use Rattle.cli.specs.LoadPlan.{IsLoadPlanOf, IsLoadRefused};
 ghost use Rattle.cli.specs.LoadWords.{IsWhyNot, load_said_by};
@@ -11,7 +11,7 @@ ghost use Rattle.cli.specs.CommandLine.{faults_of, said_after, said_by};
 
 use crate::command_line::mistake::text_of;
 use crate::command_line::{Subcommand, not_text, parse};
-use crate::get::plan::{GetPlan, GetRefusal, plan_of};
+use crate::get::plan::{CrawlPlan, GetRefusal, plan_of};
 use crate::get::words::GetWords;
 use crate::loading::plan::LoadPlan;
 use crate::loading::planning::load_plan;
@@ -39,9 +39,9 @@ pub trait ArgsAlloc {
         ensures kept { wants self.old ≤ wants self.new };
 
     /// What the words after `get` ask for. A refusal for want of memory counts as one.
-    fn plan(&mut self, words: &GetWords) -> Result<GetPlan, GetRefusal>
-        ensures plan { IfOk result (IsPlanOf (get_said_by words.now)) }
-        ensures refused { IfErr result (IsWhy (get_said_by words.now)) }
+    fn plan(&mut self, words: GetWords) -> Result<CrawlPlan, GetRefusal>
+        ensures plan { IfOk result (IsPlanOf (get_said_by words)) }
+        ensures refused { IfErr result (IsWhy (get_said_by words)) }
         ensures wants { IfErr result (λ refusal. refusal ≡ GetRefusal.Memory
             → Rises (wants self.old) (wants self.new)) }
         ensures kept { wants self.old ≤ wants self.new };
@@ -96,7 +96,7 @@ impl ArgsAlloc for CountedArgsAlloc {
         parsed
     }
 
-    fn plan(&mut self, words: &GetWords) -> Result<GetPlan, GetRefusal> {
+    fn plan(&mut self, words: GetWords) -> Result<CrawlPlan, GetRefusal> {
         let plan = plan_of(self.alloc, words);
         if let Err(GetRefusal::Memory) = &plan {
             self.wants = self.wants.saturating_add(1);

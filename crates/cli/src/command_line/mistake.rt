@@ -1,7 +1,7 @@
 //! The text that an error of the words is told with.
 
-use crate::command_line::printable::{is_unprintable, write_escaped};
 use clap::Error;
+use client::{is_unprintable, write_escaped};
 use std::alloc::{AllocError, Global};
 use std::fmt;
 

@@ -10,7 +10,7 @@ ghost use Rattle.cli.specs.LoadWords.{load_said_by};
 use crate::auditing::words::AuditWords;
 use crate::command_line::memory::ArgsAlloc;
 use crate::command_line::{Subcommand, Words};
-use crate::get::plan::{GetPlan, GetRefusal};
+use crate::get::plan::{CrawlPlan, GetRefusal};
 use crate::get::words::GetWords;
 use crate::loading::plan::LoadPlan;
 use crate::loading::words::LoadWords;
@@ -24,7 +24,7 @@ pub enum Request {
     /// To run the script that is read from there.
     Script(ScriptWords),
     /// To fetch URLs so.
-    Get(GetPlan),
+    Get(CrawlPlan),
     /// To carry out a load so.
     Load(LoadPlan),
     /// To judge the trace that is read from there.
@@ -57,7 +57,7 @@ pub fn asked_by<M: ArgsAlloc>(memory: &mut M, words: Words) -> Request
     match words {
         Words::Given(words) => match memory.parse(words.as_slice()) {
             Ok(Subcommand::Script(words)) => Request::Script(words),
-            Ok(Subcommand::Get(words)) => planned(memory, &words),
+            Ok(Subcommand::Get(words)) => planned(memory, words),
             Ok(Subcommand::Load(words)) => numbered(memory, words),
             Ok(Subcommand::Audit(words)) => Request::Audit(words),
             Err(error) => refused(memory, error),
@@ -71,9 +71,8 @@ pub fn asked_by<M: ArgsAlloc>(memory: &mut M, words: Words) -> Request
 }
 
 /// What the words after `get` ask for.
-fn planned<M: ArgsAlloc>(memory: &mut M, words: &GetWords) -> Request
-    ensures { AnswersGet (get_said_by words.now) (M.wants memory.old) (M.wants memory.new)
-        result }
+fn planned<M: ArgsAlloc>(memory: &mut M, words: GetWords) -> Request
+    ensures { AnswersGet (get_said_by words) (M.wants memory.old) (M.wants memory.new) result }
 {
     match memory.plan(words) {
         Ok(plan) => Request::Get(plan),

@@ -1,16 +1,17 @@
 //! The addresses of hosts: those that the words give, and those that the system knows.
 
-ghost use Rattle.std.specs.Prelude.{◌≡◌, ◌++◌, IfErr, IfOk, IfNone, IfSome, IsTrue, ◌↔◌};
+ghost use Rattle.std.specs.Prelude.{◌≡◌, ◌++◌, IfErr, IfOk, IfNone, IfSome};
 ghost use Rattle.std.specs.Prelude.{ℕ, List, map, option_map, string_bytes, MatchOption};
 ghost use Rattle.std.specs.declared.net.ip_addr.IpAddr.{IpAddr};
 ghost use Rattle.socket.specs.Hosts.{in_brackets};
 ghost use Rattle.cli.specs.LoadWords.{number_in};
-ghost use Rattle.cli.specs.Resolving.{AreResolved, IsAddressText, IsGivenAddress, IsGivenFor};
-ghost use Rattle.cli.specs.Resolving.{IsNoResolve, IsWhyNotResolved, Resolves, cut_at, host_said};
+ghost use Rattle.cli.specs.Resolving.{AreResolved, IsAddressText, IsNoResolve};
+ghost use Rattle.cli.specs.Resolving.{IsWhyNotResolved, Resolves, cut_at, host_said};
 ghost use Rattle.cli.specs.Resolving.{is_colon, ports, resolve_said, said_by};
 
 use crate::command_line::values::number_of;
 use crate::loading::range::NumberRange;
+use client::Resolved;
 use std::alloc::{AllocError, Global};
 use std::net::{IpAddr, Ipv6Addr, SocketAddr, ToSocketAddrs};
 
@@ -19,35 +20,6 @@ const PORTS: NumberRange = NumberRange {
     least: 1,
     greatest: 65_535,
 };
-
-/// An address that `--resolve` gives for a host and port.
-#[derive(Drop)]
-pub struct Resolved {
-    /// The host as a URL names it.
-    pub host: String,
-    pub address: SocketAddr,
-}
-
-impl Resolved {
-    /// Whether it is the address of that host, in whatever case, and port.
-    pub fn is_of(&self, host: &str, port: u16) -> bool
-        ensures { IsTrue result ↔ IsGivenFor host.now port self.now }
-    {
-        self.address.port() == port && self.host.as_str().eq_ignore_ascii_case(host)
-    }
-}
-
-/// The first address that is given for a host and port, if one is.
-pub(crate) fn resolved_of(resolved: &[Resolved], host: &str, port: u16) -> Option<SocketAddr>
-    ensures { IsGivenAddress host.now port resolved.now result }
-{
-    for given in resolved {
-        if given.is_of(host, port) {
-            return Some(given.address);
-        }
-    }
-    None
-}
 
 /// Waits for the addresses that the system knows of a host, each with that port, in the order in
 /// which the system gives them. There are none if the system does not know the host.

@@ -1,28 +1,39 @@
-//! Makes a plan of the words after `get`.
+//! Makes the plan of the words after `get`.
 
-ghost use Rattle.std.specs.Prelude.{◌≡◌, ◌<◌, false, length, option_map, string_bytes};
+ghost use Rattle.std.specs.Prelude.{◌≡◌, option_map, string_bytes};
 ghost use Rattle.std.specs.Prelude.{IfOk, IfErr};
-ghost use Rattle.cli.specs.CrawlWords.{asks_crawl, crawl_said_by};
-ghost use Rattle.cli.specs.GetPlan.{IsPlanOf, IsTurnPlanOf, IsWhy, SaysNumber, method_said};
+ghost use Rattle.cli.specs.CrawlWords.{crawl_said_by, flags_said, max_life_said};
+ghost use Rattle.cli.specs.GetPlans.{AreOptionsOf, IsPlanOf, IsWhy, SaysNumber, method_said};
 ghost use Rattle.cli.specs.GetWords.{get_said_by, max_age_said, timeout_said};
+ghost use Rattle.cli.specs.LoadWords.{number_said};
 
-use crate::command_line::printable::Escaped;
 use crate::command_line::values::number_of;
-use crate::get::crawl::plan::{CrawlPlan, crawl_plan_of};
-use crate::get::planning::plan_jobs;
-use crate::get::words::GetWords;
-use bundle::MOST_HOSTS;
-use conn_key::Sites;
-use exchange::Job;
+use crate::get::resolved::resolved_hosts;
+use crate::get::urls::check_urls;
+use crate::get::words::{CrawlWords, GetWords};
+use crate::loading::range::NumberRange;
+use client::{CrawlFlags, CrawlOptions, Escaped, Resolved};
 use persistence::Method;
 use script_text::DEFAULT_MAX_AGE;
 use std::alloc::{AllocError, Global};
 
-/// The seconds after which a transfer is cancelled, by default.
+/// The default time limit of a transfer, in seconds.
 const TIMEOUT: u32 = 30;
 
-/// The longest timeout of a transfer, in seconds.
+/// The longest time limit of a transfer, in seconds.
 const LONGEST_TIMEOUT: u64 = 3_600;
+
+/// The maximum number of transfers in flight.
+const PARALLEL: NumberRange = NumberRange {
+    least: 1,
+    greatest: 256,
+};
+
+/// The maximum number of open connections; 0 is no limit.
+const LIMIT: NumberRange = NumberRange {
+    least: 0,
+    greatest: 65_535,
+};
 
 /// The message for words that name neither a URL nor a file.
 const NO_URL: &str = "\
@@ -34,34 +45,16 @@ Usage: curlpool get <URL>...
 For more information, try '--help'.
 ";
 
-/// The most URLs of a `get` that is no crawl: each may name another host.
-const MOST_URLS: usize = MOST_HOSTS as usize;
-
-/// A URL as it was given, and the job that fetches it.
-#[derive(Drop)]
-pub struct UrlJob {
-    pub url: String,
-    pub job: Job,
-}
-
 /// The plan of a `get`.
 #[derive(Drop)]
-pub enum GetPlan {
-    /// Fetches URLs one after another.
-    InTurn(TurnPlan),
-    /// Fetches any number of URLs, many at once.
-    Crawl(CrawlPlan),
-}
-
-/// URLs that are fetched one after another.
-#[derive(Drop)]
-pub struct TurnPlan {
-    /// The URLs with their jobs, in order.
-    pub jobs: Vec<UrlJob>,
-    /// The jobs' sites.
-    pub sites: Sites,
-    /// The time limit of a transfer, in seconds.
-    pub timeout: u32,
+pub struct CrawlPlan {
+    pub options: CrawlOptions,
+    /// The URLs among the words, which come first.
+    pub urls: Vec<String>,
+    /// The file with more of them; `-` is standard input.
+    pub file: Option<String>,
+    /// The addresses that `--resolve` gives for hosts, which are not looked up.
+    pub resolved: Vec<Resolved>,
 }
 
 /// Why the words after `get` give no plan.
@@ -88,59 +81,75 @@ impl From<AllocError> for GetRefusal {
 ///
 /// # Errors
 ///
-/// `Wrong` if a number is out of its range, if there is neither a URL nor a file, if a `get` that
-/// is no crawl has more than 1,024 URLs, or if a URL that may not be skipped has a control
-/// character or no target. `Memory` if memory ran out.
-pub fn plan_of(alloc: Global, words: &GetWords) -> Result<GetPlan, GetRefusal>
-    ensures plan { IfOk result (IsPlanOf (get_said_by words.now)) }
-    ensures refused { IfErr result (IsWhy (get_said_by words.now)) }
+/// `Wrong` if there is neither a URL nor a file, if a number is out of its range, if a value of
+/// `--resolve` has another form, or if a URL that may not be skipped has a control character or no
+/// target. `Memory` if memory ran out.
+pub fn plan_of(alloc: Global, words: GetWords) -> Result<CrawlPlan, GetRefusal>
+    ensures plan { IfOk result (IsPlanOf (get_said_by words)) }
+    ensures refused { IfErr result (IsWhy (get_said_by words)) }
 {
     if words.urls.is_empty() && words.crawl.file.is_none() {
         return Err(wrong(String::from_str(alloc, NO_URL)));
     }
-    if words.crawl.are_used() {
-        match crawl_plan_of(alloc, words) {
-            Ok(plan) => Ok(GetPlan::Crawl(plan)),
-            Err(refusal) => Err(refusal),
-        }
-    } else {
-        match turn_plan_of(alloc, words) {
-            Ok(plan) => Ok(GetPlan::InTurn(plan)),
-            Err(refusal) => Err(refusal),
-        }
+    let options = options_of(alloc, &words)?;
+    let resolved = resolved_hosts(alloc, words.crawl.resolve.as_slice())?;
+    if !options.flags.skip_bad {
+        check_urls(alloc, words.urls.as_slice())?;
     }
-}
-
-/// Makes the plan of URLs that are fetched one after another.
-fn turn_plan_of(alloc: Global, words: &GetWords) -> Result<TurnPlan, GetRefusal>
-    requires some { 0 < length words.now.urls.items }
-    requires plain { asks_crawl (crawl_said_by words.now.crawl) ≡ false }
-    ensures plan { IfOk result (IsTurnPlanOf (get_said_by words.now)) }
-    ensures refused { IfErr result (IsWhy (get_said_by words.now)) }
-{
-    let max_age = max_age_of(alloc, &words.max_age)?;
-    let timeout = timeout_of(alloc, &words.timeout)?;
-    let urls = words.urls.as_slice();
-    if urls.len() > MOST_URLS {
-        return Err(wrong(String::from_str(alloc, "curlpool: more than 1024 URLs\n")));
-    }
-    let (jobs, sites) = plan_jobs(alloc, urls, method_of(words.head), max_age)?;
-    Ok(TurnPlan {
-        jobs,
-        sites,
-        timeout,
+    let GetWords { urls, crawl, .. } = words;
+    Ok(CrawlPlan {
+        options,
+        urls,
+        file: crawl.file,
+        resolved,
     })
 }
 
-/// The method of the requests.
-pub(crate) fn method_of(head: bool) -> Method
+/// Returns the options that the words give.
+fn options_of(alloc: Global, words: &GetWords) -> Result<CrawlOptions, GetRefusal>
+    ensures options { IfOk result (AreOptionsOf (get_said_by words.now)) }
+    ensures refused { IfErr result (IsWhy (get_said_by words.now)) }
+{
+    let crawl = &words.crawl;
+    let max_age = max_age_of(alloc, &words.max_age)?;
+    let timeout = timeout_of(alloc, &words.timeout)?;
+    let parallel = number_or(alloc, "parallel", PARALLEL, 1, &crawl.parallel)?;
+    let host_limit = number_or(alloc, "host-limit", LIMIT, 0, &crawl.host_limit)?;
+    let total = number_or(alloc, "total", LIMIT, 0, &crawl.total)?;
+    let max_life = max_life_of(alloc, &crawl.max_life)?;
+    Ok(CrawlOptions {
+        method: method_of(words.head),
+        parallel,
+        host_limit,
+        total,
+        max_age,
+        max_life,
+        timeout,
+        flags: flags_of(crawl),
+    })
+}
+
+/// Returns the method of the requests.
+fn method_of(head: bool) -> Method
     ensures { result ≡ method_said head }
 {
     if head { Method::Head } else { Method::Get }
 }
 
-/// The maximum idle age that was given, or the default.
-pub(crate) fn max_age_of(alloc: Global, given: &Option<String>) -> Result<u64, GetRefusal>
+/// Returns the flags that the words use.
+fn flags_of(words: &CrawlWords) -> CrawlFlags
+    ensures { result ≡ flags_said (crawl_said_by words.now) }
+{
+    CrawlFlags {
+        fresh: words.fresh,
+        skip_bad: words.skip_bad,
+        fail: words.fail,
+        json: words.json,
+    }
+}
+
+/// Returns the maximum idle time that was given, or the default.
+fn max_age_of(alloc: Global, given: &Option<String>) -> Result<u64, GetRefusal>
     ensures { SaysNumber (max_age_said (option_map string_bytes given.now)) result }
 {
     let Some(text) = given else {
@@ -156,8 +165,8 @@ pub(crate) fn max_age_of(alloc: Global, given: &Option<String>) -> Result<u64, G
     }
 }
 
-/// The timeout that was given, or the default, in seconds.
-pub(crate) fn timeout_of(alloc: Global, given: &Option<String>) -> Result<u32, GetRefusal>
+/// Returns the time limit of a transfer that was given, or the default, in seconds.
+fn timeout_of(alloc: Global, given: &Option<String>) -> Result<u32, GetRefusal>
     ensures { SaysNumber (timeout_said (option_map string_bytes given.now)) result }
 {
     let Some(text) = given else {
@@ -173,7 +182,50 @@ pub(crate) fn timeout_of(alloc: Global, given: &Option<String>) -> Result<u32, G
     }
 }
 
-/// The refusal with this message, or `Memory` if it could not be made.
+/// Returns the number that was given for the option of that name, or `otherwise`.
+fn number_or(
+    alloc: Global,
+    name: &str,
+    range: NumberRange,
+    otherwise: u32,
+    given: &Option<String>,
+) -> Result<u32, GetRefusal>
+    ensures { SaysNumber (number_said range otherwise (option_map string_bytes given.now)) result }
+{
+    let Some(text) = given else {
+        return Ok(otherwise);
+    };
+    let text = text.as_str();
+    let (least, greatest) = (range.least as u64, range.greatest as u64);
+    match number_of(text) {
+        Some(number) if least <= number && number <= greatest => Ok(number as u32),
+        _ => {
+            let shown = Escaped(text);
+            Err(wrong(format!(in alloc;
+                "curlpool: --{name} {shown}: not a number from {least} to {greatest}\n"
+            )))
+        }
+    }
+}
+
+/// Returns the maximum age of a connection that was given, or 0 for none.
+fn max_life_of(alloc: Global, given: &Option<String>) -> Result<u64, GetRefusal>
+    ensures { SaysNumber (max_life_said (option_map string_bytes given.now)) result }
+{
+    let Some(text) = given else {
+        return Ok(0);
+    };
+    let text = text.as_str();
+    let shown = Escaped(text);
+    match number_of(text) {
+        Some(seconds) => Ok(seconds),
+        None => Err(wrong(format!(in alloc;
+            "curlpool: --max-life {shown}: not a number from 0 to 18446744073709551615\n"
+        ))),
+    }
+}
+
+/// Returns the refusal with this message, or `Memory` if it could not be made.
 pub(crate) fn wrong(text: Result<String, AllocError>) -> GetRefusal {
     match text {
         Ok(text) => GetRefusal::Wrong(text),

@@ -46,7 +46,7 @@ const FAIL_HELP: &str = "Count a status of 400 or above as failed";
 
 const JSON_HELP: &str = "Print a JSON object for each URL instead of its line";
 
-const URL_HELP: &str = "An http URL; at most 1024, except in a crawl";
+const URL_HELP: &str = "An http URL";
 
 /// The subcommand `get`: its options, and URLs.
 ///

@@ -1,9 +1,9 @@
-//! What the words after `get` say.
+//! The words after `get`.
 
 ghost use Rattle.std.specs.Prelude.{◌≡◌, map, string_bytes, IfOk};
 ghost use Rattle.clap.specs.Words.{found_of, rows_of};
 ghost use Rattle.cli.specs.GetWords.{get_said_by, get_said_in};
-ghost use Rattle.cli.specs.CrawlWords.{asks_crawl, crawl_said_by, crawl_said_in};
+ghost use Rattle.cli.specs.CrawlWords.{crawl_said_by, crawl_said_in};
 
 use crate::command_line::values::{is_set, owned};
 use clap::ArgMatches;
@@ -12,59 +12,44 @@ use std::alloc::{AllocError, Global};
 /// The words after `get`, before it is known whether they make sense.
 #[derive(Drop)]
 pub struct GetWords {
-    /// Whether HEAD is to be sent in place of GET.
+    /// HEAD is sent in place of GET.
     pub head: bool,
-    /// The most seconds idle for reuse, as they were given.
+    /// Maximum idle time of a connection that is reused, as it was given.
     pub max_age: Option<String>,
-    /// The seconds after which a transfer is cancelled, as they were given.
+    /// Time limit of a transfer, as it was given.
     pub timeout: Option<String>,
     /// The URLs, in order.
     pub urls: Vec<String>,
-    /// What they say of a crawl.
+    /// The other options.
     pub crawl: CrawlWords,
 }
 
-/// The words of a crawl, as they were given.
+/// Options of a crawl, as they were given.
 #[derive(Drop)]
 pub struct CrawlWords {
     /// The file with more URLs.
     pub file: Option<String>,
-    /// The most transfers at once.
+    /// Maximum number of transfers in flight.
     pub parallel: Option<String>,
-    /// The most connections that are open to a host.
+    /// Maximum number of open connections to a host.
     pub host_limit: Option<String>,
-    /// The most connections that are open to all hosts.
+    /// Maximum number of open connections in total.
     pub total: Option<String>,
-    /// The most seconds open for reuse.
+    /// Maximum age of a connection that is reused.
     pub max_life: Option<String>,
     /// The addresses of hosts.
     pub resolve: Vec<String>,
-    /// Whether each URL gets a new connection.
+    /// Each URL gets a new connection.
     pub fresh: bool,
-    /// Whether a bad URL has a line, and is passed over.
+    /// A bad URL has a line, and the crawl goes on.
     pub skip_bad: bool,
-    /// Whether a status of 400 and above counts as failed.
+    /// A status of 400 or above counts as failed.
     pub fail: bool,
-    /// Whether lines are JSON.
+    /// Lines are JSON.
     pub json: bool,
 }
 
-impl CrawlWords {
-    /// Whether one of them was given.
-    pub fn are_used(&self) -> bool
-        ensures { result ≡ asks_crawl (crawl_said_by self.now) }
-    {
-        let has_value = self.file.is_some()
-            || self.parallel.is_some()
-            || self.host_limit.is_some()
-            || self.total.is_some()
-            || self.max_life.is_some();
-        let has_flag = self.fresh || self.skip_bad || self.fail || self.json;
-        has_value || has_flag || !self.resolve.is_empty()
-    }
-}
-
-/// What the matches of `get` say.
+/// Returns the words that the matches of `get` give.
 pub fn get_words_of<'a>(alloc: Global, given: &ArgMatches<'a>) -> Result<GetWords, AllocError>
     ensures { IfOk result (λ words.
         get_said_by words ≡ get_said_in (rows_of (found_of given.now))) }
@@ -83,7 +68,7 @@ pub fn get_words_of<'a>(alloc: Global, given: &ArgMatches<'a>) -> Result<GetWord
     })
 }
 
-/// What the matches of `get` say of a crawl.
+/// Returns the options of a crawl that the matches of `get` give.
 fn crawl_words_of<'a>(alloc: Global, given: &ArgMatches<'a>) -> Result<CrawlWords, AllocError>
     ensures { IfOk result (λ words.
         crawl_said_by words ≡ crawl_said_in (rows_of (found_of given.now))) }

@@ -5,10 +5,10 @@ ghost use Rattle.cli.specs.LoadJobs.{AreLoadJobs, IsLoadJob};
 ghost use Rattle.cli.specs.LoadPlan.{IsLoadPlanOf, IsLoadRefused, has_conflict};
 ghost use Rattle.cli.specs.LoadWords.{IsWhyNot, load_said_by};
 
-use crate::get::planning::want_of;
 use crate::loading::measured::planning::measured_plan;
 use crate::loading::numbers::{load_options, refusal};
 use crate::loading::plan::LoadPlan;
+use crate::loading::want::want_of;
 use crate::loading::words::LoadWords;
 use clap::Error;
 use clap::error::ErrorKind;

@@ -1,6 +1,7 @@
 //! The program, with its streams in memory.
 
-use cli::{CountedArgsAlloc, SystemNetwork, Words, load_on_system, run_program};
+use crate::networks::FakeNetwork;
+use cli::{CountedArgsAlloc, Words, load_on_system, run_program};
 use script_run::SystemFiles;
 use std::alloc::{AllocError, AllocGlobal, Global};
 use std::random::RandomSource;
@@ -44,7 +45,7 @@ pub(crate) fn run_words<T: Threads + Wait + RandomSource + AllocGlobal + Sync>(
     let given = words(rt.alloc(), text)?;
     let mut memory = CountedArgsAlloc::new(rt.alloc());
     let mut files = SystemFiles::new(rt);
-    let mut network = SystemNetwork::new(rt, threads);
+    let network = FakeNetwork::new(rt.alloc(), None);
     let mut input = b"".as_slice();
     let mut output = Vec::new(rt.alloc());
     let mut errors = Vec::new(rt.alloc());
@@ -54,7 +55,7 @@ pub(crate) fn run_words<T: Threads + Wait + RandomSource + AllocGlobal + Sync>(
         given,
         false,
         &mut files,
-        &mut network,
+        &network,
         |alloc, plan| load_on_system(threads, rt, alloc, plan),
         &mut input,
         &mut output,

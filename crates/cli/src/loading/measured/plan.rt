@@ -1,6 +1,6 @@
 //! What the words of a measured load ask for.
 
-use crate::command_line::resolving::Resolved;
+use client::Resolved;
 use exchange::Job;
 
 /// What a load is asked for beside its six numbers.

@@ -1,6 +1,7 @@
 //! The addresses of the sites that a load requests.
 
-use crate::command_line::resolving::{Resolved, resolved_of, system_addresses};
+use crate::command_line::resolving::system_addresses;
+use client::{Resolved, resolved_of};
 use conn_key::Target;
 use exchange::Job;
 use socket::{AddressFault, Addresses};

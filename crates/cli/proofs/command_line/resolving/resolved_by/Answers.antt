@@ -1,7 +1,7 @@
 use Rattle.std.proofs.Common.{map, string_bytes, take, subst, ℕ, List}
 use Rattle.std.specs.Prelude.{MatchOption, Option}
 use Rattle.cli.specs.Resolving.{IsNoResolve, Resolves}
-use Rattle.cli.specs.declared.command_line.resolving.Resolved.{Resolved}
+use Rattle.client.specs.declared.resolved.Resolved.{Resolved}
 use Rattle.cli.proofs.Plans.{texts-more}
 use Rattle.cli.proofs.Resolves.{resolved_more}
 use Rattle.cli.proofs.command_line.resolving.resolved_by.Goals as goal

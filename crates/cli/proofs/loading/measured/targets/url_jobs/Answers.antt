@@ -1,6 +1,6 @@
 use Rattle.std.proofs.Common.{◌∙◌, ◌<◌, List, ℕ, arith, length, map, string_bytes, subst, take}
 use Rattle.conn_key.specs.Target.{GivesTarget}
-use Rattle.cli.specs.GetWords.{IsBadUrl, IsPrintable}
+use Rattle.client.specs.Urls.{IsBadUrl, IsPrintable}
 use Rattle.cli.specs.LoadWords.{IsWhyNot}
 use Rattle.cli.specs.MeasuredPlan.{AreBadUrls}
 use Rattle.cli.proofs.LoadRefusals.{handed_on}

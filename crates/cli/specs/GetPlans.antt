@@ -1,0 +1,72 @@
+-- The crawl that the words after `get` ask for.
+use Rattle.std.specs.Prelude.{◌≡◌, ℕ, Bool, false, map, List, string_bytes, Option, None, Some, if◌then◌else◌, Result, Ok, Err}
+use Rattle.std.specs.List.{All, Any}
+use Rattle.std.specs.Option.{option_map}
+use Rattle.clap.specs.Words.{Text}
+use Rattle.persistence.specs.declared.method.Method.{Method}
+use Rattle.persistence.specs.declared.method.Method.TheVariants.{Get, Head}
+use Rattle.client.specs.Urls.{IsBadUrl}
+use Rattle.client.specs.declared.options.CrawlOptions.{CrawlOptions}
+use Rattle.cli.specs.GetWords.{GetSaid, IsGoodUrl, IsRefused, NamesNone, max_age_said, timeout_said}
+use Rattle.cli.specs.CrawlWords.{flags_said, max_life_said, parallel_range}
+use Rattle.cli.specs.Inputs.{asked_file}
+use Rattle.cli.specs.LoadRanges.{limit_range}
+use Rattle.cli.specs.LoadWords.{number_said}
+use Rattle.cli.specs.Resolving.{AreResolved, IsNoResolve}
+use Rattle.cli.specs.declared.get.plan.CrawlPlan.{CrawlPlan}
+use Rattle.cli.specs.declared.get.plan.GetRefusal.{GetRefusal}
+use Rattle.cli.specs.declared.get.plan.GetRefusal.TheVariants.{Memory, Wrong}
+
+abbrev pub method_said : Bool → Method
+method_said head = if head then Head else Get
+
+-- a crawl fetches by the numbers and flags that the words say
+pub record AreOptionsOf (said : GetSaid) (options : CrawlOptions) : Type 0 where
+  pub method : options.method ≡ method_said said.head
+  pub age_said : max_age_said said.max_age ≡ Some options.max_age
+  pub seconds_said : timeout_said said.timeout ≡ Some options.timeout
+  pub parallel_said : number_said parallel_range 1 said.crawl.parallel ≡ Some options.parallel
+  pub host_limit_said : number_said limit_range 0 said.crawl.host_limit ≡ Some options.host_limit
+  pub total_said : number_said limit_range 0 said.crawl.total ≡ Some options.total
+  pub life_said : max_life_said said.crawl.max_life ≡ Some options.max_life
+  pub flags : options.flags ≡ flags_said said.crawl
+
+-- a crawl by these, of the URLs and the file that the words say, with the addresses that they give for hosts; there is a
+-- URL or a file, and each URL is good if bad ones are not skipped
+pub record IsPlanOf (said : GetSaid) (plan : CrawlPlan) : Type 0 where
+  pub options : AreOptionsOf said plan.options
+  pub urls_said : map string_bytes plan.urls.items ≡ said.urls
+  pub file_said : option_map string_bytes plan.file ≡ said.crawl.file
+  pub resolved_said : AreResolved said.crawl.resolve plan.resolved.items
+  pub some : NamesNone said → ⊥
+  pub good : said.crawl.skip_bad ≡ false → All IsGoodUrl said.urls
+
+-- the file that a plan reads URLs from; none is standard input, or none
+abbrev pub plan_file : CrawlPlan → Option Text
+plan_file plan = asked_file (option_map string_bytes plan.file)
+
+-- why there is no plan: the words are refused, or memory ran out
+abbrev pub IsWhy : GetSaid → GetRefusal → Type 0
+IsWhy said Memory = Unit {0}
+IsWhy said (Wrong text) = IsRefused said
+
+-- a number is what the words say, or they say none
+abbrev pub SaysNumber : Option ℕ → Result ℕ GetRefusal → Type 0
+SaysNumber said (Ok number) = said ≡ Some number
+SaysNumber said (Err Memory) = Unit {0}
+SaysNumber said (Err (Wrong text)) = said ≡ None
+
+-- a URL that is refused is bad, if memory did not run out
+abbrev pub IsWhyOfUrl : Text → GetRefusal → Type 0
+IsWhyOfUrl url Memory = Unit {0}
+IsWhyOfUrl url (Wrong text) = IsBadUrl url
+
+-- the same of one among several
+abbrev pub IsWhyOfUrls : List Text → GetRefusal → Type 0
+IsWhyOfUrls urls Memory = Unit {0}
+IsWhyOfUrls urls (Wrong text) = Any IsBadUrl urls
+
+-- if memory did not run out, a value of `--resolve` gives no address
+abbrev pub IsWhyOfHosts : List Text → GetRefusal → Type 0
+IsWhyOfHosts given Memory = Unit {0}
+IsWhyOfHosts given (Wrong text) = Any IsNoResolve given

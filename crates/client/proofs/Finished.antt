@@ -1,0 +1,153 @@
+-- How a crawl ends.
+use Rattle.std.proofs.Common.{◌≡◌, ℕ, List, [], ◌∷◌, ◌++◌, length, refl, ap, sym, ◌∙◌, subst, arith, rules, append_assoc, inl, inr}
+use Rattle.std.specs.Prelude.{true, false, is_some, Option, Some, None, Result, Ok, Err, IsOk, OnOk}
+use Rattle.std.specs.List.{AllZip}
+use Rattle.std.specs.List.Sorted.{IsPermutation}
+use Rattle.std.proofs.KnownBytes.{Appends-nil}
+use Rattle.std.proofs.lemmas.List.{length-append}
+use Rattle.std.proofs.lemmas.List.Elements.{All-cons, All-nil}
+use Rattle.std.proofs.lemmas.List.Sorted.{IsPermutation-append_left, IsPermutation-refl}
+use Rattle.exchange.specs.declared.job.Job.{Job}
+use Rattle.run_loop.specs.Taking.{AllTaken, JobResult}
+use Rattle.script_run.specs.Streams.{Stream}
+use Rattle.script_text.specs.declared.fault.FaultKind.{FaultKind}
+use Rattle.client.specs.Crawling.{CrawlGiven, Crawls, HasFetched, IfEnd, IsAt, IsOver, IsSomewhere, jobs_begun, line_fault}
+use Rattle.client.specs.FileLines.{urls_in}
+use Rattle.client.specs.Lines.{Text}
+use Rattle.client.specs.Reading.{QueueShown}
+use Rattle.client.specs.Steps.{HasCrawled, IsJobOf, IsMade, IsOfResult}
+use Rattle.client.specs.Written.{AreWritten, OutputShown, TakesShown, TookAll, tally_of, urls_in_flight, urls_written}
+use Rattle.client.specs.declared.crawl.Crawled.{Crawled}
+use Rattle.client.specs.declared.crawl.Step.{Step}
+use Rattle.client.specs.declared.crawl.fault.CrawlFault.TheVariants as faults
+use Rattle.client.specs.declared.crawl.fault.NetworkFault.{NetworkFault}
+use Rattle.client.specs.declared.crawl.in_flight.InFlight.{InFlight}
+use Rattle.client.specs.declared.options.CrawlFlags.{CrawlFlags}
+use Rattle.client.specs.declared.options.CrawlOptions.{CrawlOptions}
+use Rattle.client.proofs.FileLines.{first_in}
+use Rattle.client.proofs.Positions.{at_takes}
+use Rattle.client.proofs.Taken.{none_all, whole_all}
+
+module _ {K : Type 0} (crawled : K → K → List Job → List JobResult → Type 0) where
+  -- nothing was called yet
+  pub none_called : HasCrawled crawled [] []
+  none_called = record { calls = []; made = All-nil (IsMade crawled); jobs_are = refl; results_are = refl }
+
+  -- one more call
+  pub one_called : (before after : K) (more jobs : List Job) (told results : List JobResult) → HasCrawled crawled jobs results → crawled before after more told → HasCrawled crawled (more ++ jobs) (told ++ results)
+  one_called before after more jobs told results ran is = record {
+    calls = record { before = before; after = after; jobs = more; results = told } ∷ ran.calls;
+    made = All-cons (IsMade crawled) (record { before = before; after = after; jobs = more; results = told }) ran.calls is ran.made;
+    jobs_are = ap (λ l. more ++ l) ran.jobs_are;
+    results_are = ap (λ l. told ++ l) ran.results_are;
+  }
+
+-- a crawl is at that queue, after some calls
+pub record IsFetching {K : Type 0} (crawled : K → K → List Job → List JobResult → Type 0) (crawl : CrawlGiven) (first : Stream) (source : Option (List ℕ)) (queue : QueueShown) (now : OutputShown) : Type 0 where
+  pub jobs : List Job
+  pub results : List JobResult
+  pub ran : HasCrawled crawled jobs results
+  pub at : IsAt crawl jobs results first source queue now
+
+-- one more call was made
+pub fetches_on : {K : Type 0} (crawled : K → K → List Job → List JobResult → Type 0) (crawl : CrawlGiven) (first : Stream) (before after : K) (more jobs : List Job) (results : List JobResult) (source : Option (List ℕ)) (queue : QueueShown) (old now : OutputShown)
+    → HasCrawled crawled jobs results → IsAt crawl (more ++ jobs) results first source queue old → TookAll (crawled before after more) old now → IsFetching crawled crawl first source queue now
+fetches_on crawled crawl first before after more jobs results source queue old now ran at took = record {
+  jobs = more ++ jobs;
+  results = took.0 ++ results;
+  ran = one_called crawled before after more jobs took.0 results ran took.1;
+  at = at_takes crawl (more ++ jobs) results first source took.0 queue old now at took.2;
+}
+
+-- up to there all was fetched
+pub fetched_here : {K : Type 0} (crawled : K → K → List Job → List JobResult → Type 0) (crawl : CrawlGiven) (first : Stream) (source : Option (List ℕ)) (queue : QueueShown) (now : OutputShown) (is_whole : Type 0) → IsFetching crawled crawl first source queue now → (is_whole → now.fault ≡ None → IsOver queue now.in_flight)
+    → HasFetched crawled crawl first now is_whole
+fetched_here crawled crawl first source queue now is_whole f whole = record { jobs = f.jobs; results = f.results; ran = f.ran; source = source; queue = queue; at = f.at; whole = whole }
+
+-- up to there some was fetched, as it failed
+pub stopped_here : {K : Type 0} (crawled : K → K → List Job → List JobResult → Type 0) (crawl : CrawlGiven) (first : Stream) (jobs : List Job) (results : List JobResult) (now : OutputShown) → HasCrawled crawled jobs results → IsSomewhere crawl jobs results first now
+    → HasFetched crawled crawl first now (false ≡ true)
+stopped_here crawled crawl first jobs results now ran at = record { jobs = jobs; results = results; ran = ran; source = at.0; queue = at.1; at = at.2; whole = λ is none. absurd (search (rules, is)) }
+
+-- what holds of a good end
+pub at_ok : {A E : Type 0} (r : Result A E) (P : Type 0) → OnOk r P → IsOk r → P
+at_ok (Ok a) P holds is = holds
+at_ok (Err error) P holds is = absurd (search (rules, is))
+
+-- a step that begins nothing
+pub step_from : (step other : Step) (crawl : CrawlGiven) (jobs : List Job) (results : List JobResult) (first : Stream) (source : Option (List ℕ)) (queue : QueueShown) (now : OutputShown) → step ≡ other → IsAt crawl (jobs_begun step ++ jobs) results first source queue now → IsAt crawl (jobs_begun other ++ jobs) results first source queue now
+step_from step other crawl jobs results first source queue now is at = subst (λ (s : Step). IsAt crawl (jobs_begun s ++ jobs) results first source queue now) is at
+
+pub end_from : (step other : Step) (P : Type 0) → step ≡ other → IfEnd step P → IfEnd other P
+end_from step other P is holds = subst (λ (s : Step). IfEnd s P) is holds
+
+-- jobs that are none
+pub no_more : (more jobs : List Job) (crawl : CrawlGiven) (results : List JobResult) (first : Stream) (source : Option (List ℕ)) (queue : QueueShown) (now : OutputShown) → more ≡ [] → IsAt crawl (more ++ jobs) results first source queue now → IsAt crawl jobs results first source queue now
+no_more more jobs crawl results first source queue now none at = subst (λ (l : List Job). IsAt crawl (l ++ jobs) results first source queue now) none at
+
+-- no transfers are in flight, so none began
+pub no_jobs : (options : CrawlOptions) (jobs : List Job) (old begun new : List InFlight) → new ≡ old ++ begun → AllZip (IsJobOf options) jobs begun → new ≡ [] → jobs ≡ []
+no_jobs options [] old begun new is zip none = refl
+no_jobs options (job ∷ jobs) old [] new is zip none = absurd zip
+no_jobs options (job ∷ jobs) old (one ∷ begun) new is zip none =
+    absurd (omega (arith, ap (λ (l : List InFlight). length l) (sym is ∙ none), length-append old (one ∷ begun)))
+
+-- a fault is no absence of one
+pub fault_is : (fault : Option FaultKind) (P : Type 0) → is_some fault ≡ true → fault ≡ None → P
+fault_is fault P some none = absurd (search (rules, some, none))
+
+-- a fault is one
+some_not_none : (fault : NetworkFault) → Some (faults.Network fault) ≡ None → ⊥
+some_not_none fault is = search (rules, is)
+
+-- what is in flight or unread at the end has no line
+module _ {K : Type 0} (crawled : K → K → List Job → List JobResult → Type 0) (finished : K → List JobResult → Type 0) (crawl : CrawlGiven) (first : Stream) where
+  pub ends_so : (mid now : OutputShown) (is_whole : Type 0) (last : K) (told : List JobResult) (result : Crawled) → HasFetched crawled crawl first mid is_whole → finished last told → AllTaken TakesShown mid now told
+      → result.tally ≡ now.tally → line_fault result.fault ≡ now.fault → (result.fault ≡ None → is_whole) → Crawls crawled finished crawl first now.stream result
+  ends_so mid now is_whole last told result f finishes taken counted line done =
+      let at = at_takes crawl f.jobs f.results first f.source told f.queue mid now f.at taken in
+      let a = at.accounted in
+      let urls = urls_written a.lines in
+      let rest = urls_in_flight now.in_flight ++ f.queue.queued in
+      let joined : (urls ++ rest) ++ f.queue.left ≡ urls ++ (rest ++ f.queue.left) = append_assoc urls rest f.queue.left in
+      record {
+        from_file = at.from_file;
+        none = at.none;
+        read = λ bytes known. first_in bytes crawl.bytes f.source f.queue.lines at.from_file _ known at.read (λ p. (
+            let none : now.fault ≡ None = sym line ∙ ap line_fault p.0 in
+            (f.whole (done p.0) (whole_all told mid now taken none)).no_line (λ q. p.1 (sym at.file ∙ q))));
+        lines = a.lines;
+        left = rest ++ f.queue.left;
+        are = subst (AreWritten a.lines first now.stream) (sym line) a.are;
+        each = subst (λ (l : List Text). IsPermutation l (urls ++ (rest ++ f.queue.left))) at.are
+            (subst (IsPermutation (at.given ++ f.queue.left)) joined (IsPermutation-append_left f.queue.left at.given (urls ++ rest) a.each));
+        order = λ p. sym at.are ∙ ap (λ l. l ++ f.queue.left) (a.order p) ∙ joined;
+        whole = λ p. (
+            let none : now.fault ≡ None = sym line ∙ ap line_fault p in
+            let over = f.whole (done p) (whole_all told mid now taken none) in
+            ap (λ (fs : List InFlight). (urls_in_flight fs ++ f.queue.queued) ++ f.queue.left) (none_all told mid now taken over.none_in_flight) ∙ ap (λ l. l ++ f.queue.left) over.none_queued ∙ over.none_left);
+        tally = counted ∙ a.tally ∙ ap (λ (flags : CrawlFlags). tally_of flags a.lines) at.flags;
+        jobs = f.jobs;
+        results = told ++ f.results;
+        its = a.its;
+        ran = inr (record { before = f.results; ran = f.ran; last = last; told = told; finishes = finishes; results_are = refl });
+      }
+
+  -- the network was not opened
+  pub never_opened : (result : Crawled) (fault : NetworkFault) → result.tally ≡ record { told = 0; failed = 0 } → result.fault ≡ Some (faults.Network fault) → Crawls crawled finished crawl first first result
+  never_opened result fault counted is = record {
+    from_file = [];
+    none = λ p. refl;
+    read = λ bytes known. record { rest = urls_in bytes; are = refl; whole = λ p. absurd (some_not_none fault (sym is ∙ p.0)) };
+    lines = [];
+    left = crawl.words ++ [];
+    are = subst (AreWritten [] first first) (sym (ap line_fault is)) (Appends-nil first.bytes, refl);
+    each = IsPermutation-refl (crawl.words ++ []);
+    order = λ p. refl;
+    whole = λ p. absurd (some_not_none fault (sym is ∙ p));
+    tally = counted;
+    jobs = [];
+    results = [];
+    its = All-nil (IsOfResult crawl.options [] []);
+    ran = inl (refl, refl);
+  }

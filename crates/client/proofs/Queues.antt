@@ -1,0 +1,232 @@
+-- What is read into a queue, and taken out of it.
+use Rattle.std.proofs.Common.{◌≡◌, ◌≤◌, ◌<◌, ℕ, List, [], ◌∷◌, ◌++◌, length, get_or, map, refl, ap, sym, ◌∙◌, subst, arith, append_assoc, append-nil, string_bytes, inl, inr}
+use Rattle.std.specs.Prelude.{◌≢◌, Bool, true, Option, String, reverse, remove, Result, Ok, Err, OnOk}
+use Rattle.std.specs.Global.{Global}
+use Rattle.std.specs.List.{AllZip}
+use Rattle.std.specs.List.Sorted.{IsPermutation}
+use Rattle.std.proofs.lemmas.List.{length-append, map-append, reverse-append}
+use Rattle.std.proofs.lemmas.List.Sorted.{IsPermutation-map, IsPermutation-middle, IsPermutation-pop_more, IsPermutation-refl, IsPermutation-remove}
+use Rattle.exchange.specs.declared.job.Job.{Job}
+use Rattle.site_table.specs.Hosts.{Hosts}
+use Rattle.client.specs.Hosts.{AreAwaited, KeepsAwaited, is_awaited}
+use Rattle.client.specs.Lines.{Text}
+use Rattle.client.specs.FileLines.{LinesShown, TakesLine}
+use Rattle.client.specs.Reading.{AddsUrl, QueueShown, Reads, TakesOut, url_queued, urls_queued}
+use Rattle.client.specs.Sorting.{Begins, Sorts, Waits}
+use Rattle.client.specs.Steps.{IsJobOf}
+use Rattle.client.specs.Written.{url_in_flight, urls_in_flight}
+use Rattle.client.specs.declared.crawl.in_flight.InFlight.{InFlight}
+use Rattle.client.specs.declared.crawl.queued.Queued.{Queued}
+use Rattle.client.specs.declared.crawl.window.Window.{Window}
+use Rattle.client.specs.declared.options.CrawlOptions.{CrawlOptions}
+use Rattle.client.specs.declared.options.UrlFile.TheVariants as files
+use Rattle.client.proofs.FileLines.{read_same, reads_after, reads_line, reads_nothing}
+use Rattle.client.proofs.Places.{awaited_more, awaited_on}
+
+-- nothing more is read
+pub reads_none : (old new : QueueShown) (source : Option (List ℕ)) → new ≡ old → Reads old new source source
+reads_none old new source same = record {
+  more = [];
+  from_file = [];
+  queued = ap (λ (q : QueueShown). q.queued) same ∙ sym (append-nil old.queued);
+  left = ap (λ (q : QueueShown). q.left) same ∙ sym (append-nil old.left);
+  none = λ p. refl;
+  lines = λ ends. read_same [] old.lines old.lines new.lines source source (ap (λ (q : QueueShown). q.lines) same) (reads_nothing old.lines source ends);
+  options = ap (λ (q : QueueShown). q.options) same;
+  file = ap (λ (q : QueueShown). q.file) same;
+}
+
+-- first some URLs, then others
+pub reads_then : (first mid last : QueueShown) (before between after : Option (List ℕ)) → Reads first mid before between → Reads mid last between after → Reads first last before after
+reads_then first mid last before between after one other = record {
+  more = one.more ++ other.more;
+  from_file = one.from_file ++ other.from_file;
+  queued = other.queued ∙ ap (λ (l : List Text). l ++ other.more) one.queued ∙ append_assoc first.queued one.more other.more;
+  left = append_assoc one.more other.more last.left ∙ ap (λ (l : List Text). one.more ++ l) other.left ∙ sym (append_assoc one.more mid.left other.from_file)
+      ∙ ap (λ (l : List Text). l ++ other.from_file) one.left ∙ append_assoc first.left one.from_file other.from_file;
+  none = λ p. ap (λ (l : List Text). l ++ other.from_file) (one.none p) ∙ other.none (one.file ∙ p);
+  lines = λ ends. (
+      let read = one.lines ends in
+      reads_after first.lines mid.lines last.lines before between after one.from_file other.from_file read (other.lines read.ended));
+  options = other.options ∙ one.options;
+  file = other.file ∙ one.file;
+}
+
+-- what follows if a call succeeds
+pub on_ok : {A E : Type 0} (r : Result A E) (P Q : Type 0) → (P → Q) → OnOk r P → OnOk r Q
+on_ok (Ok done) P Q leads holds = leads holds
+on_ok (Err error) P Q leads holds = tt
+
+-- the last URL of the words, turned round, is the first
+pub first_left : (old new : List (String Global)) (url : String Global) → old ≡ new ++ url ∷ [] → map string_bytes (reverse old) ≡ string_bytes url ∷ map string_bytes (reverse new)
+first_left old new url is = ap (λ (l : List (String Global)). map string_bytes (reverse l)) is ∙ ap (λ (l : List (String Global)). map string_bytes l) (reverse-append new (url ∷ []))
+
+-- a URL among the words is read
+pub reads_word : (old mid new : QueueShown) (url : Text) (source : Option (List ℕ)) → mid.queued ≡ old.queued → old.left ≡ url ∷ mid.left → mid.lines ≡ old.lines → mid.options ≡ old.options → mid.file ≡ old.file → AddsUrl url mid new
+    → Reads old new source source
+reads_word old mid new url source queued left lines options file adds = record {
+  more = url ∷ [];
+  from_file = [];
+  queued = adds.queued ∙ ap (λ (l : List Text). l ++ url ∷ []) queued;
+  left = ap (λ (l : List Text). url ∷ l) adds.left ∙ sym left ∙ sym (append-nil old.left);
+  none = λ p. refl;
+  lines = λ ends. read_same [] old.lines old.lines new.lines source source (adds.lines ∙ lines) (reads_nothing old.lines source ends);
+  options = adds.options ∙ options;
+  file = adds.file ∙ file;
+}
+
+-- no URL of the words is left, before and after
+pub same_words : (old : QueueShown) (lines : LinesShown) (left : List Text) → old.left ≡ [] → left ≡ [] → record old { left = left; lines = lines } ≡ record old { lines = lines }
+same_words old lines left was is = ap (λ (l : List Text). record old { left = l; lines = lines }) (is ∙ sym was)
+
+-- a URL of the file is read
+pub reads_url : (old mid new : QueueShown) (url : Text) (source : Option (List ℕ)) → old.left ≡ [] → old.file ≢ files.None → mid ≡ record old { lines = mid.lines } → TakesLine (url ∷ []) old.lines mid.lines → AddsUrl url mid new
+    → Reads old new source source
+reads_url old mid new url source none_left has same takes adds = record {
+  more = url ∷ [];
+  from_file = url ∷ [];
+  queued = adds.queued ∙ ap (λ (q : QueueShown). q.queued ++ url ∷ []) same;
+  left = ap (λ (l : List Text). url ∷ l) (adds.left ∙ ap (λ (q : QueueShown). q.left) same ∙ none_left) ∙ ap (λ (l : List Text). l ++ url ∷ []) (sym none_left);
+  none = λ p. absurd (has p);
+  lines = λ ends. read_same (url ∷ []) old.lines mid.lines new.lines source source adds.lines (reads_line (url ∷ []) old.lines mid.lines source takes ends);
+  options = adds.options ∙ ap (λ (q : QueueShown). q.options) same;
+  file = adds.file ∙ ap (λ (q : QueueShown). q.file) same;
+}
+
+-- no URL is left
+pub none_left : (urls : List (String Global)) → length urls ≡ 0 → map string_bytes (reverse urls) ≡ []
+none_left [] none = refl
+none_left (url ∷ urls) none = absurd (omega (arith, none))
+
+pub none_queued : (queued : List Queued) → length queued ≡ 0 → urls_queued queued ≡ []
+none_queued [] none = refl
+none_queued (one ∷ queued) none = absurd (omega (arith, none))
+
+-- one URL is taken out of a queue, in front if it was there
+pub takes_at : (old new : List Queued) (place : ℕ) (one : Queued) → place < length old → one ≡ get_or old place one → new ≡ remove old place → IsPermutation (urls_queued old) (url_queued one ∷ urls_queued new)
+takes_at old new place one below there is =
+    subst (λ (l : List Queued). IsPermutation (urls_queued old) (url_queued one ∷ urls_queued l)) (sym is)
+    (IsPermutation-map url_queued old (one ∷ remove old place) (IsPermutation-remove old place one below there))
+
+takes_head : (old : List Queued) (one : Queued) → 0 < length old → one ≡ get_or old 0 one → old ≡ one ∷ remove old 0
+takes_head [] one below there = absurd (omega (arith, below))
+takes_head (x ∷ old) one below there = ap (λ (y : Queued). y ∷ old) (sym there)
+
+pub takes_first : (old new : List Queued) (place : ℕ) (one : Queued) → place < length old → one ≡ get_or old place one → new ≡ remove old place → place ≡ 0 → urls_queued old ≡ url_queued one ∷ urls_queued new
+takes_first old new place one below there is front =
+    let at = subst (λ n. one ≡ get_or old n one) front there in
+    let below' = subst (λ n. n < length old) front below in
+    ap urls_queued (takes_head old one below' at) ∙ ap (λ (l : List Queued). url_queued one ∷ urls_queued l) (sym (is ∙ ap (λ n. remove old n) front))
+
+-- one more of two lists that correspond
+zip_push : {A B : Type 0} (R : A → B → Type 0) (xs : List A) (ys : List B) (x : A) (y : B) → AllZip R xs ys → R x y → AllZip R (xs ++ x ∷ []) (ys ++ y ∷ [])
+zip_push R [] [] x y are is = (is, tt)
+zip_push R [] (b ∷ ys) x y are is = absurd are
+zip_push R (a ∷ xs) [] x y are is = absurd are
+zip_push R (a ∷ xs) (b ∷ ys) x y are is = (are.0, zip_push R xs ys x y are.1 is)
+
+-- how far a window is: the URLs that were queued begin, wait or are queued, and those that begin have their jobs
+pub record IsWindow (options : CrawlOptions) (was : List Queued) (window : Window) (queued : List Queued) (free : ℕ) : Type 0 where
+  pub each : IsPermutation (urls_queued was) (urls_in_flight window.urls.items ++ (urls_queued window.waiting.items ++ urls_queued queued))
+  pub order : options.parallel ≡ 1 → urls_queued was ≡ urls_in_flight window.urls.items ++ (urls_queued window.waiting.items ++ urls_queued queued)
+  pub jobs : AllZip (IsJobOf options) window.jobs.items window.urls.items
+  pub few : length window.urls.items ≤ free
+
+module _ (options : CrawlOptions) (was : List Queued) (free : ℕ) where
+  -- none begins yet
+  pub window_none : (window : Window) (queued : List Queued) → queued ≡ was → window.jobs.items ≡ [] → window.urls.items ≡ [] → window.waiting.items ≡ [] → IsWindow options was window queued free
+  window_none window queued same jobs urls waiting = record {
+    each = subst (λ (us : List InFlight). IsPermutation (urls_queued was) (urls_in_flight us ++ (urls_queued window.waiting.items ++ urls_queued queued))) (sym urls)
+        (subst (λ (ws : List Queued). IsPermutation (urls_queued was) (urls_queued ws ++ urls_queued queued)) (sym waiting)
+        (subst (λ (qs : List Queued). IsPermutation (urls_queued was) (urls_queued qs)) (sym same) (IsPermutation-refl (urls_queued was))));
+    order = λ p. ap urls_queued (sym same) ∙ ap (λ (ws : List Queued). urls_queued ws ++ urls_queued queued) (sym waiting)
+        ∙ ap (λ (us : List InFlight). urls_in_flight us ++ (urls_queued window.waiting.items ++ urls_queued queued)) (sym urls);
+    jobs = subst (λ (js : List Job). AllZip (IsJobOf options) js window.urls.items) (sym jobs) (subst (λ (us : List InFlight). AllZip (IsJobOf options) [] us) (sym urls) tt);
+    few = subst (λ (us : List InFlight). length us ≤ free) (sym urls) (omega arith);
+  }
+
+  -- the next URL begins
+  window_begins : (old new : Window) (one : Queued) (rest : List Queued) → IsWindow options was old (one ∷ rest) free → (options.parallel ≡ 1 → old.waiting.items ≡ []) → length old.urls.items < free → Begins options (url_queued one) old new
+      → IsWindow options was new rest free
+  window_begins old new one rest w first room b =
+      let begun = urls_in_flight old.urls.items in
+      let waiting = urls_queued old.waiting.items in
+      let left = urls_queued rest in
+      let url = url_queued one in
+      let urls : urls_in_flight new.urls.items ≡ begun ++ url ∷ [] = ap urls_in_flight b.urls ∙ map-append url_in_flight old.urls.items (b.one ∷ []) ∙ ap (λ (t : Text). begun ++ t ∷ []) b.its_url in
+      let each : IsPermutation (urls_queued was) ((begun ++ url ∷ []) ++ (waiting ++ left)) =
+      IsPermutation-pop_more (urls_queued was) begun (waiting ++ url ∷ left) (waiting ++ left) url w.each (IsPermutation-middle waiting url left) in
+      record {
+        each = subst (λ (us : List Text). IsPermutation (urls_queued was) (us ++ (urls_queued new.waiting.items ++ left))) (sym urls)
+            (subst (λ (ws : List Queued). IsPermutation (urls_queued was) ((begun ++ url ∷ []) ++ (urls_queued ws ++ left))) (sym b.waiting) each);
+        order = λ p. (
+            let none = first p in
+            let now : urls_queued was ≡ begun ++ (url ∷ left) = subst (λ (ws : List Queued). urls_queued was ≡ begun ++ (urls_queued ws ++ url ∷ left)) none (w.order p) in
+            subst (λ (us : List Text). urls_queued was ≡ us ++ (urls_queued new.waiting.items ++ left)) (sym urls)
+            (subst (λ (ws : List Queued). urls_queued was ≡ (begun ++ url ∷ []) ++ (urls_queued ws ++ left)) (sym (b.waiting ∙ none)) (now ∙ sym (append_assoc begun (url ∷ []) left))));
+        jobs = subst (λ (js : List Job). AllZip (IsJobOf options) js new.urls.items) (sym b.jobs)
+            (subst (λ (us : List InFlight). AllZip (IsJobOf options) (old.jobs.items ++ b.job ∷ []) us) (sym b.urls) (zip_push (IsJobOf options) old.jobs.items old.urls.items b.job b.one w.jobs b.its));
+        few = subst (λ (us : List InFlight). length us ≤ free) (sym b.urls) (subst (λ n. n ≤ free) (sym (length-append old.urls.items (b.one ∷ []))) (omega (arith, room)));
+      }
+
+  -- the next URL waits
+  window_waits : (old new : Window) (one : Queued) (rest : List Queued) → IsWindow options was old (one ∷ rest) free → Waits (url_queued one) old new → IsWindow options was new rest free
+  window_waits old new one rest w b =
+      let begun = urls_in_flight old.urls.items in
+      let waiting = urls_queued old.waiting.items in
+      let left = urls_queued rest in
+      let url = url_queued one in
+      let moved : waiting ++ (url ∷ left) ≡ urls_queued new.waiting.items ++ left =
+      sym (append_assoc waiting (url ∷ []) left)
+      ∙ ap (λ (l : List Text). l ++ left) (ap (λ (t : Text). waiting ++ t ∷ []) (sym b.its_url) ∙ sym (map-append url_queued old.waiting.items (b.one ∷ [])) ∙ ap urls_queued (sym b.waiting)) in
+      record {
+        each = subst (λ (us : List InFlight). IsPermutation (urls_queued was) (urls_in_flight us ++ (urls_queued new.waiting.items ++ left))) (sym b.urls)
+            (subst (λ (l : List Text). IsPermutation (urls_queued was) (begun ++ l)) moved w.each);
+        order = λ p. w.order p ∙ ap (λ (l : List Text). begun ++ l) moved ∙ ap (λ (us : List InFlight). urls_in_flight us ++ (urls_queued new.waiting.items ++ left)) (sym b.urls);
+        jobs = subst (λ (js : List Job). AllZip (IsJobOf options) js new.urls.items) (sym b.jobs) (subst (λ (us : List InFlight). AllZip (IsJobOf options) old.jobs.items us) (sym b.urls) w.jobs);
+        few = subst (λ (us : List InFlight). length us ≤ free) (sym b.urls) w.few;
+      }
+
+  pub window_on : (old new : Window) (one : Queued) (queued rest : List Queued) → queued ≡ one ∷ rest → IsWindow options was old queued free → (options.parallel ≡ 1 → old.waiting.items ≡ []) → length old.urls.items < free
+      → Sorts options (url_queued one) old new → IsWindow options was new rest free
+  window_on old new one queued rest is w first room (inl b) = window_begins old new one rest (subst (λ (qs : List Queued). IsWindow options was old qs free) is w) first room b
+  window_on old new one queued rest is w first room (inr b) = window_waits old new one rest (subst (λ (qs : List Queued). IsWindow options was old qs free) is w) b
+
+-- what begins is taken out of the queue
+pub window_takes : (options : CrawlOptions) (was queued : List Queued) (window : Window) (free : ℕ) (old new : QueueShown) → IsWindow options was window queued free
+    → old.queued ≡ urls_queued was → new.queued ≡ urls_queued (window.waiting.items ++ queued) → old.options ≡ options → new.left ≡ old.left → new.lines ≡ old.lines → new.options ≡ old.options → new.file ≡ old.file
+    → TakesOut (urls_in_flight window.urls.items) old new
+window_takes options was queued window free old new w before after is left lines same file =
+    let begun = urls_in_flight window.urls.items in
+    let rest : new.queued ≡ urls_queued window.waiting.items ++ urls_queued queued = after ∙ map-append url_queued window.waiting.items queued in
+    record {
+      each = subst (λ (l : List Text). IsPermutation l (begun ++ new.queued)) (sym before) (subst (λ (l : List Text). IsPermutation (urls_queued was) (begun ++ l)) (sym rest) w.each);
+      order = λ p. before ∙ w.order (ap (λ (o : CrawlOptions). o.parallel) (sym is) ∙ p) ∙ ap (λ (l : List Text). begun ++ l) (sym rest);
+      left = left;
+      lines = lines;
+      options = same;
+      file = file;
+    }
+
+module _ {A E : Type 0} where
+  -- a URL that is passed over waits
+  pub passed_on : (r : Result A E) (options : CrawlOptions) (url : Text) (one : Queued) (old new : Window) → url_queued one ≡ url → OnOk r (new.waiting.items ≡ old.waiting.items ++ one ∷ [])
+      → new.jobs.items ≡ old.jobs.items → new.urls.items ≡ old.urls.items → OnOk r (Sorts options url old new)
+  passed_on (Ok done) options url one old new its waiting jobs urls = inr (record { one = one; its_url = its; jobs = jobs; urls = urls; waiting = waiting })
+  passed_on (Err error) options url one old new its waiting jobs urls = tt
+
+  -- a transfer that is added begins
+  pub begun_on : (r : Result A E) (options : CrawlOptions) (url : Text) (job : Job) (one : InFlight) (old new : Window) → string_bytes one.url ≡ url → IsJobOf options job one → OnOk r (new.jobs.items ≡ old.jobs.items ++ job ∷ [])
+      → OnOk r (new.urls.items ≡ old.urls.items ++ one ∷ []) → new.waiting.items ≡ old.waiting.items → OnOk r (Sorts options url old new)
+  begun_on (Ok done) options url job one old new its is jobs urls waiting = inl (record { job = job; one = one; its_url = its; its = is; jobs = jobs; urls = urls; waiting = waiting })
+  begun_on (Err error) options url job one old new its is jobs urls waiting = tt
+
+  -- its place is awaited
+  pub begun_awaits : (r : Result A E) (awaited : List Bool) (place : ℕ) (one : InFlight) (old new : List InFlight) → one.place ≡ place → OnOk r (new ≡ old ++ one ∷ []) → OnOk r (is_awaited awaited place ≡ true → AreAwaited awaited old → AreAwaited awaited new)
+  begun_awaits (Ok done) awaited place one old new at urls = λ is all. subst (AreAwaited awaited) (sym urls) (awaited_more awaited old one all (ap (is_awaited awaited) at ∙ is))
+  begun_awaits (Err error) awaited place one old new at urls = tt
+
+  -- the places of the others stay awaited
+  pub passed_awaits : (r : Result A E) (first last : Hosts) (was now : List Bool) (old new : List InFlight) → KeepsAwaited first last was now → new ≡ old → OnOk r (AreAwaited was old → AreAwaited now new)
+  passed_awaits (Ok done) first last was now old new keeps same = λ all. subst (AreAwaited now) (sym same) (awaited_on first last was now old keeps all)
+  passed_awaits (Err error) first last was now old new keeps same = tt

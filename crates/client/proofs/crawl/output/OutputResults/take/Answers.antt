@@ -1,0 +1,23 @@
+-- The line of a transfer is written, if there was memory for it.
+use Rattle.std.proofs.Common.{◌≡◌, ◌<◌, ◌∙◌, length, rules, sym, ap, get_or}
+use Rattle.std.specs.Prelude.{remove}
+use Rattle.run_loop.specs.Taking.{job_result}
+use Rattle.client.specs.Written.{Counts, done_failed, output_shown}
+use Rattle.client.specs.declared.crawl.in_flight.InFlight.{InFlight}
+use Rattle.client.proofs.Lines.{no_fault, result_written}
+use Rattle.client.proofs.crawl.output.OutputResults.take.Goals as goal
+
+pub returns : goal.returns
+returns g c =
+    let was = c.args.self.now in
+    let now = c.write.new.self in
+    let one = c.remove-one.result in
+    let place = c.in-Some.place in
+    let all = was.progress.now.in_flight.items in
+    let below : place < length all = rw c.as_slice.ensures.value at c.in-Some.ensures.below in
+    let number : (get_or all place one).number ≡ c.args.number = (rw c.as_slice.ensures.value at c.in-Some.ensures.there) one in
+    let left : now.progress.now.in_flight.items ≡ remove all place = search rules in
+    let counts : Counts (done_failed was.progress.now.flags c.args.done) was.progress.now.tally now.progress.now.tally = rw c.has_failed.ensures at c.write.ensures.counts in
+    result_written c.transfer_line-line.result (job_result c.args.number c.args.done c.args.span) place one (output_shown was.progress.now (g.W.Sink.sink was.output.now) was.output.ghost_name)
+    (output_shown now.progress.now (g.W.Sink.sink now.output.now) now.output.ghost_name) below c.remove-one.ensures.value (ap (λ (o : InFlight). o.number) c.remove-one.ensures.value ∙ number)
+    (no_fault was.progress.now.fault (sym c.is_some.ensures ∙ c.if-is_some.false)) c.transfer_line-line.ensures c.write.ensures.puts counts c.write.ensures.flags left c.write.ensures.name

@@ -1,0 +1,20 @@
+use Rattle.std.specs.Prelude.{◌≡◌, length}
+use Rattle.client.specs.FileLines.{lines_shown}
+use Rattle.client.specs.Hosts.{AreAwaited, KeepsAwaited}
+use Rattle.client.proofs.Queues.{IsWindow}
+use Rattle.client.proofs.crawl.queue.Queue.window.Given as goal
+
+abbrev pub decreases-loop-one : goal.decreases-loop-one
+decreases-loop-one g l = length l.self.queued.items
+
+abbrev pub invariant-loop-one : goal.invariant-loop-one
+invariant-loop-one g l = record {
+  stands : g.C.Crawler.stands l.crawler;
+  is : IsWindow l.fn.self.options l.fn.self.queued.items l.window l.self.queued.items l.free;
+  options : l.self.options ≡ l.fn.self.options;
+  file : l.self.file ≡ l.fn.self.file;
+  urls : l.self.urls.items ≡ l.fn.self.urls.items;
+  lines : lines_shown l.self.lines ≡ lines_shown l.fn.self.lines;
+  keeps : KeepsAwaited l.fn.self.hosts.table l.self.hosts.table l.fn.self.hosts.awaited.items l.self.hosts.awaited.items;
+  awaits : AreAwaited l.self.hosts.awaited.items l.window.urls.items;
+}

@@ -1,0 +1,106 @@
+-- The URLs in a file, one on each line.
+use Rattle.std.specs.Prelude.{◌≡◌, ◌==◌, ◌++◌, ◌∷◌, [], ℕ, List, Bool, true, false, if◌then◌else◌, drop, take, flat_map, option_map, string_bytes, Option, Some, None}
+use Rattle.std.specs.Io.KnownBytes.{IsAtEnd}
+use Rattle.std.specs.List.{All, slice_split}
+use Rattle.std.specs.Str.Lines.{strip_carriage_return}
+use Rattle.std.specs.Str.Lossy.{utf8_lossy}
+use Rattle.client.specs.Lines.{Text}
+use Rattle.client.specs.declared.crawl.lines.Line.{Line}
+use Rattle.client.specs.declared.crawl.lines.Line.TheVariants.{Url, Bad, Passed, Unread, Over}
+use Rattle.client.specs.declared.crawl.lines.UrlLines.{UrlLines}
+
+-- LF ends a line
+abbrev pub ends_line : ℕ → Bool
+ends_line byte = byte == 10
+
+-- the bytes of a line that count: without a CR at its end, the first 2,048
+unfoldable pub line_front : List ℕ → List ℕ
+line_front line = take 2048 (strip_carriage_return line)
+
+-- a line is passed over if it is empty, or begins with `#`
+abbrev pub is_passed : List ℕ → Bool
+is_passed [] = true
+is_passed (byte ∷ bytes) = byte == 35
+
+-- the URL of a line, if it is not passed over; each byte that is not UTF-8 becomes U+FFFD
+abbrev pub urls_of_front : List ℕ → List Text
+urls_of_front front = if is_passed front then [] else (utf8_lossy front ∷ [])
+
+abbrev pub urls_on : List ℕ → List Text
+urls_on line = urls_of_front (line_front line)
+
+-- the URLs in the bytes of a file
+unfoldable pub urls_in : List ℕ → List Text
+urls_in bytes = flat_map urls_on (slice_split ends_line bytes)
+
+-- the lines of a file that are not returned yet: the bytes that were read, and whether these are the last
+pub record LinesShown : Type 0 where
+  pub pending : List ℕ
+  pub is_at_end : Bool
+
+abbrev pub lines_shown : UrlLines → LinesShown
+lines_shown lines = record { pending = drop lines.from lines.bytes.items; is_at_end = lines.is_at_end }
+
+-- nothing was read yet
+abbrev pub nothing_read : LinesShown
+nothing_read = record { pending = []; is_at_end = false }
+
+-- bytes with no line end
+abbrev pub HasNoEnd : List ℕ → Type 0
+HasNoEnd bytes = All (λ byte. ends_line byte ≡ false) bytes
+
+-- a line with these URLs is taken, whatever follows the bytes that were read
+pub record TakesLine (urls : List Text) (old new : LinesShown) : Type 0 where
+  pub is_at_end : new.is_at_end ≡ old.is_at_end
+  pub urls_are : (rest : List ℕ) → (old.is_at_end ≡ true → rest ≡ []) → urls_in (old.pending ++ rest) ≡ urls ++ urls_in (new.pending ++ rest)
+
+-- more is to be read before there is a line
+pub record NeedsMore (lines : LinesShown) : Type 0 where
+  pub has_more : lines.is_at_end ≡ false
+  pub no_end : HasNoEnd lines.pending
+
+-- no line is left
+pub record HasNoLine (lines : LinesShown) : Type 0 where
+  pub is_at_end : lines.is_at_end ≡ true
+  pub none : lines.pending ≡ []
+
+-- the URLs of a line
+abbrev pub urls_returned : Line → Option (List Text)
+urls_returned (Url url number) = Some (string_bytes url ∷ [])
+urls_returned (Bad url number) = Some (string_bytes url ∷ [])
+urls_returned Passed = Some []
+urls_returned Unread = None
+urls_returned Over = None
+
+-- this line is next
+abbrev pub IsNextLine : Line → LinesShown → LinesShown → Type 0
+IsNextLine (Url url number) old new = TakesLine (string_bytes url ∷ []) old new
+IsNextLine (Bad url number) old new = TakesLine (string_bytes url ∷ []) old new
+IsNextLine Passed old new = TakesLine [] old new
+IsNextLine Unread old new = (new ≡ old) × NeedsMore new
+IsNextLine Over old new = (new ≡ old) × HasNoLine new
+
+-- the URLs of a file that are not returned yet, if the bytes that its reads will give are known
+abbrev pub urls_left : LinesShown → Option (List ℕ) → Option (List Text)
+urls_left lines source = option_map (λ bytes. urls_in (lines.pending ++ bytes)) source
+
+-- of the URLs that are known, the first are these, and the others are left
+abbrev pub GivesUrls : Option (List Text) → Option (List Text) → List Text → Type 0
+GivesUrls None left given = Unit {0}
+GivesUrls (Some all) None given = ⊥
+GivesUrls (Some all) (Some left) given = all ≡ given ++ left
+
+-- if all was read, reads will give nothing more
+abbrev pub KnowsEnd : LinesShown → Option (List ℕ) → Type 0
+KnowsEnd lines source = lines.is_at_end ≡ true → IsAtEnd source
+
+-- these URLs of a file are returned, and maybe more of it is read
+pub record ReadsFile (urls : List Text) (old new : LinesShown) (before after : Option (List ℕ)) : Type 0 where
+  pub unread : GivesUrls (urls_left old before) (urls_left new after) urls
+  pub ended : KnowsEnd new after
+
+-- these URLs are the first of all; under that condition there are no others
+pub record AreFirst (all urls : List Text) (is_whole : Type 0) : Type 0 where
+  pub rest : List Text
+  pub are : all ≡ urls ++ rest
+  pub whole : is_whole → rest ≡ []

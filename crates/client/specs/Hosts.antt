@@ -1,0 +1,43 @@
+-- Which places the hosts of a crawl keep, and which addresses are given for them.
+use Rattle.std.specs.Prelude.{◌≡◌, ◌⊎◌, ◌<◌, ◌++◌, ◌∷◌, [], ℕ, Bool, true, false, List, length, map, string_bytes, slice_get, unwrap_or, Option, Some, None}
+use Rattle.std.specs.List.{All}
+use Rattle.std.specs.Char.{to_ascii_lowercase}
+use Rattle.std.specs.Net.Socket.{socket_port}
+use Rattle.std.specs.declared.net.socket_addr.SocketAddr.{SocketAddr}
+use Rattle.site_table.specs.Hosts.{Hosts}
+use Rattle.client.specs.declared.crawl.in_flight.InFlight.{InFlight}
+use Rattle.client.specs.declared.resolved.Resolved.{Resolved}
+
+-- an address is given for that host, in whatever case, and port
+abbrev pub IsGivenFor : List ℕ → ℕ → Resolved → Type 0
+IsGivenFor host port given =
+    (socket_port given.address ≡ port) × (map to_ascii_lowercase (string_bytes given.host) ≡ map to_ascii_lowercase host)
+
+-- the address of the first that is given for that host and port; none if none is
+abbrev pub IsGivenAddress : List ℕ → ℕ → List Resolved → Option SocketAddr → Type 0
+IsGivenAddress host port [] found = found ≡ None
+IsGivenAddress host port (given ∷ rest) found =
+    (IsGivenFor host port given × (found ≡ Some given.address))
+    ⊎ ((IsGivenFor host port given → ⊥) × IsGivenAddress host port rest found)
+
+-- a transfer is in flight at a place, or about to begin there
+abbrev pub is_awaited : List Bool → ℕ → Bool
+is_awaited awaited place = unwrap_or (slice_get awaited place) false
+
+-- each place that is awaited stays so, and its host keeps it
+pub record KeepsAwaited (old new : Hosts) (old_awaited new_awaited : List Bool) : Type 0 where
+  pub hosts : (place : ℕ) (host : List ℕ) → is_awaited old_awaited place ≡ true → slice_get old.keys place ≡ Some host
+      → slice_get new.keys place ≡ Some host
+  pub awaited : (place : ℕ) → is_awaited old_awaited place ≡ true → is_awaited new_awaited place ≡ true
+
+-- one place more, which is not awaited, or none
+abbrev pub GrowsOrStays : List Bool → List Bool → Type 0
+GrowsOrStays old new = (new ≡ old) ⊎ (new ≡ old ++ false ∷ [])
+
+-- the place of a transfer is awaited, if it is one of the places
+abbrev pub IsNoted : List Bool → InFlight → Type 0
+IsNoted awaited one = one.place < length awaited → is_awaited awaited one.place ≡ true
+
+-- the places of these transfers are awaited
+abbrev pub AreAwaited : List Bool → List InFlight → Type 0
+AreAwaited awaited transfers = All (λ (one : InFlight). is_awaited awaited one.place ≡ true) transfers

@@ -1,0 +1,70 @@
+-- How the URLs of a crawl are read and begun.
+use Rattle.std.specs.Prelude.{◌≡◌, ◌++◌, ◌∷◌, [], ℕ, List, map, reverse, string_bytes, Option}
+use Rattle.std.specs.List.Sorted.{IsPermutation}
+use Rattle.client.specs.FileLines.{KnowsEnd, LinesShown, ReadsFile, lines_shown}
+use Rattle.client.specs.Lines.{Text}
+use Rattle.client.specs.declared.crawl.queue.Queue.{Queue}
+use Rattle.client.specs.declared.crawl.queued.Queued.{Queued}
+use Rattle.client.specs.declared.options.CrawlOptions.{CrawlOptions}
+use Rattle.client.specs.declared.options.UrlFile.{UrlFile}
+use Rattle.client.specs.declared.options.UrlFile.TheVariants as files
+
+-- a queue of URLs: the options, the kind of file, the URLs among the words that are not read yet, the lines of the file
+-- that are not, and the URLs that were read, in order
+pub record QueueShown : Type 0 where
+  pub options : CrawlOptions
+  pub file : UrlFile
+  pub left : List Text
+  pub lines : LinesShown
+  pub queued : List Text
+
+abbrev pub url_queued : Queued → Text
+url_queued one = string_bytes one.url
+
+abbrev pub urls_queued : List Queued → List Text
+urls_queued all = map url_queued all
+
+abbrev pub queue_shown : Queue → QueueShown
+queue_shown queue = record {
+  options = queue.options;
+  file = queue.file;
+  left = map string_bytes (reverse queue.urls.items);
+  lines = lines_shown queue.lines;
+  queued = urls_queued queue.queued.items;
+}
+
+-- a URL is added to the queue
+pub record AddsUrl (url : Text) (old new : QueueShown) : Type 0 where
+  pub queued : new.queued ≡ old.queued ++ (url ∷ [])
+  pub left : new.left ≡ old.left
+  pub lines : new.lines ≡ old.lines
+  pub options : new.options ≡ old.options
+  pub file : new.file ≡ old.file
+
+-- more of the file is read, and no URL
+pub record ReadsOn (old new : QueueShown) (before after : Option (List ℕ)) : Type 0 where
+  pub lines : ReadsFile [] old.lines new.lines before after
+  pub queued : new.queued ≡ old.queued
+  pub left : new.left ≡ old.left
+  pub options : new.options ≡ old.options
+  pub file : new.file ≡ old.file
+
+-- more URLs are read: first those among the words, then those of the file
+pub record Reads (old new : QueueShown) (before after : Option (List ℕ)) : Type 0 where
+  pub more : List Text
+  pub from_file : List Text
+  pub queued : new.queued ≡ old.queued ++ more
+  pub left : more ++ new.left ≡ old.left ++ from_file
+  pub none : old.file ≡ files.None → from_file ≡ []
+  pub lines : KnowsEnd old.lines before → ReadsFile from_file old.lines new.lines before after
+  pub options : new.options ≡ old.options
+  pub file : new.file ≡ old.file
+
+-- these URLs are taken out of the queue; if one transfer is in flight at a time, from its front
+pub record TakesOut (taken : List Text) (old new : QueueShown) : Type 0 where
+  pub each : IsPermutation old.queued (taken ++ new.queued)
+  pub order : old.options.parallel ≡ 1 → old.queued ≡ taken ++ new.queued
+  pub left : new.left ≡ old.left
+  pub lines : new.lines ≡ old.lines
+  pub options : new.options ≡ old.options
+  pub file : new.file ≡ old.file

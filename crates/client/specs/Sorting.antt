@@ -1,0 +1,59 @@
+-- How the URLs of a queue are begun, and what stays the same.
+use Rattle.std.specs.Prelude.{◌≡◌, ◌⊎◌, ◌++◌, ◌∷◌, [], string_bytes}
+use Rattle.exchange.specs.declared.job.Job.{Job}
+use Rattle.client.specs.FileLines.{lines_shown}
+use Rattle.client.specs.Lines.{Text}
+use Rattle.client.specs.Reading.{url_queued}
+use Rattle.client.specs.Steps.{IsJobOf}
+use Rattle.client.specs.declared.crawl.in_flight.InFlight.{InFlight}
+use Rattle.client.specs.declared.crawl.queue.Queue.{Queue}
+use Rattle.client.specs.declared.crawl.queued.Queued.{Queued}
+use Rattle.client.specs.declared.crawl.window.Window.{Window}
+use Rattle.client.specs.declared.options.CrawlOptions.{CrawlOptions}
+
+-- the transfer of that URL begins, with its job
+pub record Begins (options : CrawlOptions) (url : Text) (old new : Window) : Type 0 where
+  pub job : Job
+  pub one : InFlight
+  pub its_url : string_bytes one.url ≡ url
+  pub its : IsJobOf options job one
+  pub jobs : new.jobs.items ≡ old.jobs.items ++ (job ∷ [])
+  pub urls : new.urls.items ≡ old.urls.items ++ (one ∷ [])
+  pub waiting : new.waiting.items ≡ old.waiting.items
+
+-- that URL has to wait
+pub record Waits (url : Text) (old new : Window) : Type 0 where
+  pub one : Queued
+  pub its_url : url_queued one ≡ url
+  pub jobs : new.jobs.items ≡ old.jobs.items
+  pub urls : new.urls.items ≡ old.urls.items
+  pub waiting : new.waiting.items ≡ old.waiting.items ++ (one ∷ [])
+
+abbrev pub Sorts : CrawlOptions → Text → Window → Window → Type 0
+Sorts options url old new = Begins options url old new ⊎ Waits url old new
+
+-- hosts keep their places
+pub record KeepsHosts (old new : Queue) : Type 0 where
+  pub table : new.hosts.table ≡ old.hosts.table
+  pub awaited : new.hosts.awaited.items ≡ old.hosts.awaited.items
+
+-- what is read, and queued, stays the same
+pub record KeepsQueue (old new : Queue) : Type 0 where
+  pub options : new.options ≡ old.options
+  pub file : new.file ≡ old.file
+  pub urls : new.urls.items ≡ old.urls.items
+  pub lines : lines_shown new.lines ≡ lines_shown old.lines
+  pub queued : new.queued.items ≡ old.queued.items
+
+-- all but the queued URLs stays the same
+pub record KeepsOthers (old new : Queue) : Type 0 where
+  pub options : new.options ≡ old.options
+  pub file : new.file ≡ old.file
+  pub urls : new.urls.items ≡ old.urls.items
+  pub lines : lines_shown new.lines ≡ lines_shown old.lines
+  pub hosts : KeepsHosts old new
+
+-- all that contracts see stays the same
+pub record KeepsAll (old new : Queue) : Type 0 where
+  pub queue : KeepsQueue old new
+  pub hosts : KeepsHosts old new

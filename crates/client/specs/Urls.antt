@@ -1,0 +1,24 @@
+-- Which texts are URLs that can be fetched.
+use Rattle.std.specs.Prelude.{◌≡◌, ◌≢◌, ◌⊎◌, ℕ, true, false, List}
+use Rattle.std.specs.List.{list_any}
+use Rattle.std.specs.Str.{chars}
+use Rattle.conn_key.specs.Target.{Refuses}
+use Rattle.conn_key.specs.declared.target.KeyError.{KeyError}
+use Rattle.conn_key.specs.declared.target.KeyError.TheVariants.{Memory}
+use Rattle.client.specs.Printable.{is_unprintable}
+use Rattle.client.specs.declared.url.UrlFault.{UrlFault}
+use Rattle.client.specs.declared.url.UrlFault.TheVariants as faults
+
+-- a text that a terminal prints as it is
+abbrev pub IsPrintable : List ℕ → Type 0
+IsPrintable text = list_any is_unprintable (chars text) ≡ false
+
+-- the text is no URL that leads to a target; or it has a control character
+abbrev pub IsBadUrl : List ℕ → Type 0
+IsBadUrl url = ((error : KeyError) × Refuses url error × (error ≢ Memory)) ⊎ (list_any is_unprintable (chars url) ≡ true)
+
+-- a URL that is refused is bad, if memory did not run out
+abbrev pub IsWhyNot : List ℕ → UrlFault → Type 0
+IsWhyNot url faults.Memory = Unit {0}
+IsWhyNot url faults.Unprintable = IsBadUrl url
+IsWhyNot url (faults.NoTarget error) = IsBadUrl url

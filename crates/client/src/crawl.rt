@@ -1,0 +1,402 @@
+//! Fetches any number of URLs over one cache, many at once, and writes a line for each.
+
+ghost use Rattle.std.specs.Prelude.{◌≡◌, ◌<◌, ◌∷◌, [], ℕ, List, Option, None, Some, length};
+ghost use Rattle.std.specs.Prelude.{string_bytes};
+ghost use Rattle.std.specs.Prelude.{true, IfErr, IfNone, IfOk, IfSome, IsOk, OnOk, OnSome};
+ghost use Rattle.exchange.specs.declared.job.Job.{Job};
+ghost use Rattle.run_loop.specs.Taking.{JobResult};
+ghost use Rattle.script_run.specs.Streams.{CanCount, Stream};
+ghost use Rattle.client.specs.Crawling.{CrawlGiven, Crawls, HasFetched, HasStepped, IfEnd, IsAt};
+ghost use Rattle.client.specs.Crawling.{IsOver, crawl_given, hosts_of, jobs_begun, line_fault};
+ghost use Rattle.client.specs.Crawling.{none_begun};
+ghost use Rattle.client.specs.Reading.{TakesOut, queue_shown};
+ghost use Rattle.client.specs.Written.{TookAll, output_shown};
+ghost use Rattle.client.specs.declared.crawl.fault.CrawlFault.TheVariants.{Network as NetworkFailed};
+
+pub(crate) mod crawler;
+pub(crate) mod fault;
+pub(crate) mod host_cache;
+pub(crate) mod hosts;
+pub(crate) mod in_flight;
+pub(crate) mod jobs;
+pub(crate) mod json;
+pub(crate) mod line;
+pub(crate) mod lines;
+pub(crate) mod look_ups;
+pub(crate) mod loop_crawler;
+pub(crate) mod names;
+pub(crate) mod network;
+pub(crate) mod output;
+pub(crate) mod placed;
+pub(crate) mod progress;
+pub(crate) mod queue;
+pub(crate) mod queued;
+pub(crate) mod route;
+pub(crate) mod signals;
+pub(crate) mod timer;
+pub(crate) mod window;
+
+use crate::options::{CrawlOptions, UrlFile};
+use crate::resolved::Resolved;
+use bundle::MOST_HOSTS;
+use crawler::Crawler;
+use exchange::Job;
+use fault::{CrawlFault, NetworkFault};
+use in_flight::Tally;
+use names::Names;
+use network::Network;
+use output::Output;
+use progress::Progress;
+use queue::Queue;
+use script_run::{Sink, Source};
+use script_text::FaultKind;
+use signals::CrawlSignals;
+use std::alloc::Global;
+use std::sync::atomic::AtomicBool;
+use window::Window;
+
+/// URLs that are fetched over one cache, many at once.
+#[derive(Drop)]
+pub struct Crawl {
+    pub alloc: Global,
+    pub options: CrawlOptions,
+    /// The URLs that come first.
+    pub urls: Vec<String>,
+    /// The kind of file that has more of them, one a line.
+    pub file: UrlFile,
+    /// Addresses that are given for hosts, which are not looked up.
+    pub resolved: Vec<Resolved>,
+}
+
+/// How a crawl ended.
+#[derive(Clone, Copy, Debug, PartialEq, Eq)]
+pub struct Crawled {
+    pub tally: Tally,
+    /// Why it ended before each URL had its line, if it did.
+    pub fault: Option<CrawlFault>,
+}
+
+/// The next step of a crawl.
+#[derive(Drop)]
+pub(crate) enum Step {
+    /// Begins these jobs, and carries out what is in flight.
+    Fetch(Vec<Job>),
+    /// Waits for an answer of a look-up.
+    Wait,
+    /// Reads more.
+    Read,
+    /// Nothing is left to be done.
+    End,
+}
+
+impl Crawl {
+    /// Number of hosts for which its cache needs places: without a file, at most one for each URL.
+    pub fn hosts(&self) -> u32
+        ensures { result ≡ hosts_of self.now.file (length self.now.urls.items) 1024 }
+    {
+        match self.file {
+            UrlFile::None => self.urls.len().min(MOST_HOSTS as usize) as u32,
+            UrlFile::Regular | UrlFile::Waiting => MOST_HOSTS,
+        }
+    }
+
+    /// Fetches the URLs, and then those of `input`, if there is a file, and writes a line on
+    /// `output` as each transfer ends: how it ended, and its URL. With `parallel` 1, lines stand in
+    /// the order of the URLs.
+    pub fn run<N: Network, R: Source, W: Sink>(
+        self,
+        network: &N,
+        input: &mut R,
+        output: &mut W,
+    ) -> Crawled
+        requires input { CanCount (R.source input.old) }
+        requires output { CanCount (W.sink output.old) }
+        ensures crawls { Crawls N.Crawler.crawled N.Crawler.finished (crawl_given self
+            (R.source input.old).bytes) (W.sink output.old) (W.sink output.new) result }
+    {
+        let (alloc, options) = (self.alloc, self.options);
+        let mut crawler = match network.open(alloc, options, self.hosts()) {
+            Ok(crawler) => crawler,
+            Err(fault) => return unopened(fault),
+        };
+        let names = network.names();
+        let has_failed = AtomicBool::new(false);
+        let mut progress = Progress {
+            flags: options.flags,
+            in_flight: Vec::new(alloc),
+            tally: Tally { told: 0, failed: 0 },
+            fault: None,
+        };
+        let mut lines = Output {
+            alloc,
+            progress: &mut progress,
+            output,
+            has_failed: &has_failed,
+        };
+        let ended = fetch_urls(Queue::new(self), names, &mut crawler, input, &mut lines);
+        let signals = CrawlSignals {
+            has_failed: &has_failed,
+            names,
+            input,
+            wants_input: false,
+        };
+        let finished = crawler.finish(&mut lines, &signals);
+        Crawled {
+            tally: lines.progress.tally,
+            fault: fault_of(lines.progress.fault, ended, finished),
+        }
+    }
+}
+
+// A crawl whose network was not opened.
+fn unopened(fault: NetworkFault) -> Crawled
+    ensures tally { result.tally ≡ record { told = 0; failed = 0 } }
+    ensures fault { result.fault ≡ Some (NetworkFailed fault) }
+{
+    Crawled {
+        tally: Tally { told: 0, failed: 0 },
+        fault: Some(CrawlFault::Network(fault)),
+    }
+}
+
+// Why a crawl ended before each URL had its line, if it did: first why a line could not be written.
+fn fault_of(
+    line: Option<FaultKind>,
+    ended: Result<(), CrawlFault>,
+    finished: Result<(), NetworkFault>,
+) -> Option<CrawlFault>
+    requires other { IfErr ended (λ fault. line_fault (Some fault) ≡ None) }
+    ensures line { line_fault result ≡ line }
+    ensures whole { result ≡ None → IsOk ended }
+{
+    match (line, ended, finished) {
+        (Some(kind), _, _) => Some(CrawlFault::Output(kind)),
+        (None, Err(fault), _) => Some(fault),
+        (None, Ok(()), Err(fault)) => Some(CrawlFault::Network(fault)),
+        (None, Ok(()), Ok(())) => None,
+    }
+}
+
+// Fetches the URLs of a queue, window by window, until none is left, or a line could not be
+// written.
+//
+// Errors: the URLs could not be read, the network failed, or a bad URL ends the crawl.
+fn fetch_urls<N: Names, C: Crawler, R: Source, W: Sink>(
+    queue: Queue,
+    names: &N,
+    crawler: &mut C,
+    input: &mut R,
+    output: &mut Output<'_, W>,
+) -> Result<(), CrawlFault>
+    requires counts { CanCount (R.source input.old) }
+    requires stands { C.stands crawler.old }
+    ensures stands { C.stands crawler.new }
+    ensures same { output.new.output.ghost_name ≡ output.old.output.ghost_name }
+    ensures other { IfErr result (λ fault. line_fault (Some fault) ≡ None) }
+    ensures fetches { (crawl : CrawlGiven) (first : Stream)
+        → IsAt crawl [] [] first (R.source input.old).bytes (queue_shown queue)
+        (output_shown output.old.progress.now (W.sink output.old.output.now)
+        output.old.output.ghost_name)
+        → HasFetched C.crawled crawl first (output_shown output.new.progress.now
+        (W.sink output.new.output.now) output.new.output.ghost_name) (IsOk result) }
+{
+    let mut queue = queue;
+    for _ in 0..u64::MAX {
+        let jobs = match next_step(&mut queue, names, crawler, input, output) {
+            Ok(Step::Fetch(jobs)) => jobs,
+            Ok(Step::Wait) => {
+                names.wait();
+                continue;
+            }
+            Ok(Step::Read) => continue,
+            Ok(Step::End) => return queue.end(),
+            Err(fault) => return Err(fault),
+        };
+        if let Err(fault) = fetch(&queue, jobs.as_slice(), names, crawler, input, output) {
+            return Err(fault);
+        }
+        if output.progress.fault.is_some() {
+            return Ok(());
+        }
+    }
+    Err(CrawlFault::Input(FaultKind::Memory))
+}
+
+// Begins jobs, and carries out what is in flight, until a transfer has ended, or there is other
+// work to do.
+fn fetch<N: Names, C: Crawler, R: Source, W: Sink>(
+    queue: &Queue,
+    jobs: &[Job],
+    names: &N,
+    crawler: &mut C,
+    input: &R,
+    output: &mut Output<'_, W>,
+) -> Result<(), CrawlFault>
+    requires stands { C.stands crawler.old }
+    ensures stands { C.stands crawler.new }
+    ensures takes { TookAll (C.crawled crawler.old crawler.new jobs.now) (output_shown
+        output.old.progress.now (W.sink output.old.output.now) output.old.output.ghost_name)
+        (output_shown output.new.progress.now (W.sink output.new.output.now)
+        output.new.output.ghost_name) }
+    ensures other { IfErr result (λ fault. line_fault (Some fault) ≡ None) }
+{
+    let signals = CrawlSignals {
+        has_failed: output.has_failed,
+        names,
+        input,
+        wants_input: queue.wants_input(),
+    };
+    match crawler.crawl(jobs, queue.until(), output, &signals) {
+        Ok(()) => Ok(()),
+        Err(fault) => Err(CrawlFault::Network(fault)),
+    }
+}
+
+// Reads URLs ahead, writes the lines of bad ones, and takes those out of the queue whose transfers
+// begin next. Returns the next step.
+fn next_step<N: Names, C: Crawler, R: Source, W: Sink>(
+    queue: &mut Queue,
+    names: &N,
+    crawler: &mut C,
+    input: &mut R,
+    output: &mut Output<'_, W>,
+) -> Result<Step, CrawlFault>
+    requires counts { CanCount (R.source input.old) }
+    requires stands { C.stands crawler.old }
+    ensures counts_on { OnOk result (CanCount (R.source input.new)) }
+    ensures stands { C.stands crawler.new }
+    ensures same { output.new.output.ghost_name ≡ output.old.output.ghost_name }
+    ensures other { IfErr result (λ fault. line_fault (Some fault) ≡ None) }
+    ensures end { IfOk result (λ step. IfEnd step (queue.new.bad_line ≡ None
+        → output.new.progress.now.fault ≡ None → IsOver (queue_shown queue.new)
+        output.new.progress.now.in_flight.items)) }
+    ensures steps { (crawl : CrawlGiven) (jobs : List Job) (results : List JobResult)
+        (first : Stream) → IsAt crawl jobs results first (R.source input.old).bytes
+        (queue_shown queue.old) (output_shown output.old.progress.now
+        (W.sink output.old.output.now) output.old.output.ghost_name)
+        → HasStepped jobs_begun crawl jobs results first (R.source input.new).bytes
+        (queue_shown queue.new) (output_shown output.new.progress.now
+        (W.sink output.new.output.now) output.new.output.ghost_name) result }
+{
+    if let Err(fault) = read_urls(queue, names, input, output) {
+        return Err(fault);
+    }
+    if output.progress.fault.is_some() {
+        return Ok(Step::End);
+    }
+    let jobs = match begin_urls(queue, names, crawler, output) {
+        Ok(jobs) => jobs,
+        Err(fault) => return Err(fault),
+    };
+    if !output.is_idle() {
+        Ok(Step::Fetch(jobs))
+    } else if queue.awaits_name() {
+        Ok(Step::Wait)
+    } else if queue.is_over() {
+        Ok(Step::End)
+    } else {
+        Ok(Step::Read)
+    }
+}
+
+// Reads URLs ahead, and writes the lines of bad ones.
+fn read_urls<N: Names, R: Source, W: Sink>(
+    queue: &mut Queue,
+    names: &N,
+    input: &mut R,
+    output: &mut Output<'_, W>,
+) -> Result<(), CrawlFault>
+    requires counts { CanCount (R.source input.old) }
+    ensures counts_on { OnOk result (CanCount (R.source input.new)) }
+    ensures same { output.new.output.ghost_name ≡ output.old.output.ghost_name }
+    ensures other { IfErr result (λ fault. line_fault (Some fault) ≡ None) }
+    ensures reads { (crawl : CrawlGiven) (jobs : List Job) (results : List JobResult)
+        (first : Stream) → IsAt crawl jobs results first (R.source input.old).bytes
+        (queue_shown queue.old) (output_shown output.old.progress.now
+        (W.sink output.old.output.now) output.old.output.ghost_name)
+        → HasStepped none_begun crawl jobs results first (R.source input.new).bytes
+        (queue_shown queue.new) (output_shown output.new.progress.now
+        (W.sink output.new.output.now) output.new.output.ghost_name) result }
+{
+    let is_idle = output.is_idle();
+    if let Err(kind) = queue.learn(names) {
+        return Err(CrawlFault::Input(kind));
+    }
+    if let Err(kind) = queue.read_ahead(input, is_idle) {
+        return Err(CrawlFault::Input(kind));
+    }
+    put_bad_urls(queue, output, is_idle);
+    Ok(())
+}
+
+// Writes the lines of bad URLs that may be written now: if one transfer is in flight at a time, of
+// those at the front of the queue, once nothing is in flight, as `is_idle` says.
+fn put_bad_urls<W: Sink>(queue: &mut Queue, output: &mut Output<'_, W>, is_idle: bool)
+    requires idle { is_idle ≡ true → output.old.progress.now.in_flight.items ≡ [] }
+    ensures same { output.new.output.ghost_name ≡ output.old.output.ghost_name }
+    ensures puts { (crawl : CrawlGiven) (jobs : List Job) (results : List JobResult)
+        (first : Stream) (source : Option (List ℕ))
+        → IsAt crawl jobs results first source (queue_shown queue.old) (output_shown
+        output.old.progress.now (W.sink output.old.output.now) output.old.output.ghost_name)
+        → IsAt crawl jobs results first source (queue_shown queue.new) (output_shown
+        output.new.progress.now (W.sink output.new.output.now)
+        output.new.output.ghost_name) }
+{
+    while let Some(url) = next_bad(queue, output, is_idle) {
+        output.put_bad(url.as_str());
+    }
+}
+
+// Takes a bad URL out of the queue whose line may be written now.
+fn next_bad<W: Sink>(queue: &mut Queue, output: &Output<'_, W>, is_idle: bool) -> Option<String>
+    ensures whole { OnSome result (output.now.progress.now.fault ≡ None) }
+    ensures takes { IfSome result (λ url. TakesOut (string_bytes url ∷ [])
+        (queue_shown queue.old) (queue_shown queue.new)) }
+    ensures skips { OnSome result (queue.old.options.flags.skip_bad ≡ true) }
+    ensures idle { OnSome result (queue.old.options.parallel ≡ 1 → is_idle ≡ true) }
+    ensures none { IfNone result (queue_shown queue.new ≡ queue_shown queue.old) }
+    ensures fewer { OnSome result
+        (length queue.new.queued.items < length queue.old.queued.items) }
+{
+    if output.progress.fault.is_some() {
+        return None;
+    }
+    queue.take_bad(is_idle)
+}
+
+// Takes the URLs out of the queue whose transfers begin next, and returns their jobs.
+fn begin_urls<N: Names, C: Crawler, W: Sink>(
+    queue: &mut Queue,
+    names: &N,
+    crawler: &mut C,
+    output: &mut Output<'_, W>,
+) -> Result<Vec<Job>, CrawlFault>
+    requires stands { C.stands crawler.old }
+    ensures stands { C.stands crawler.new }
+    ensures same { output.new.output.ghost_name ≡ output.old.output.ghost_name }
+    ensures other { IfErr result (λ fault. line_fault (Some fault) ≡ None) }
+    ensures idle { IfOk result (λ jobs. output.new.progress.now.in_flight.items ≡ []
+        → jobs.items ≡ []) }
+    ensures begins { (crawl : CrawlGiven) (jobs : List Job) (results : List JobResult)
+        (first : Stream) (source : Option (List ℕ))
+        → IsAt crawl jobs results first source (queue_shown queue.old) (output_shown
+        output.old.progress.now (W.sink output.old.output.now) output.old.output.ghost_name)
+        → HasStepped (λ begun. begun.items) crawl jobs results first source
+        (queue_shown queue.new) (output_shown output.new.progress.now
+        (W.sink output.new.output.now) output.new.output.ghost_name) result }
+{
+    queue.settle(output.progress.in_flight.as_slice());
+    let free = queue.room(output.progress.in_flight.len());
+    let Window {
+        jobs,
+        urls,
+        waiting: _,
+    } = match queue.window(free, names, crawler) {
+        Ok(window) => window,
+        Err(kind) => return Err(CrawlFault::Input(kind)),
+    };
+    match output.begin(urls) {
+        Ok(()) => Ok(jobs),
+        Err(_) => Err(CrawlFault::Input(FaultKind::Memory)),
+    }
+}

@@ -1,0 +1,34 @@
+//! Why a crawl ends before each URL has its line.
+
+use script_text::FaultKind;
+use thiserror::Error;
+
+/// Why a network is not opened, or fails.
+#[derive(Clone, Copy, Debug, PartialEq, Eq, Error)]
+pub enum NetworkFault {
+    /// There is no memory for it.
+    #[error("out of memory")]
+    Memory,
+    /// The system cannot wait for connections.
+    #[error("poll failed")]
+    Poll,
+    /// The process or the system has no descriptor left.
+    #[error("too few descriptors")]
+    Descriptors,
+}
+
+/// Why a crawl ends before each URL has its line.
+#[derive(Clone, Copy, Debug, PartialEq, Eq, Error)]
+pub enum CrawlFault {
+    /// The URLs could not be read, or there is no memory for them.
+    #[error("{0}")]
+    Input(FaultKind),
+    /// A line could not be written, or there is no memory for it.
+    #[error("{0}")]
+    Output(FaultKind),
+    #[error("{0}")]
+    Network(NetworkFault),
+    /// The line of this number is a bad URL; 0 is no line.
+    #[error("bad URL")]
+    BadUrl(u64),
+}

@@ -1,0 +1,216 @@
+//! The lines of a file of URLs, as far as they have been read.
+
+ghost use Rattle.std.specs.Prelude.{◌≡◌, ◌<◌, [], true, Some, length, take, IfOk, OnOk};
+ghost use Rattle.std.specs.Str.Lines.{strip_carriage_return};
+ghost use Rattle.script_run.specs.Streams.{CanCount};
+ghost use Rattle.client.specs.FileLines.{HasNoLine, IsNextLine, NeedsMore, ReadsFile};
+ghost use Rattle.client.specs.FileLines.{is_passed, lines_shown, nothing_read, urls_on};
+ghost use Rattle.client.specs.FileLines.{urls_returned};
+
+use script_run::Source;
+use script_text::{FaultKind, place_of};
+use std::alloc::{AllocError, Global};
+use std::str;
+
+/// Maximum number of bytes of a line that is a URL.
+const MOST_BYTES: usize = 2_048;
+
+/// Number of bytes that are read at a time.
+const PIECE: usize = 65_536;
+
+/// The next line of a file of URLs.
+pub(crate) enum Line {
+    /// A URL, without its line end, and the number of its line, counted from 1.
+    Url(String, u64),
+    /// A line that is no URL, with its number: it is too long, or not UTF-8.
+    Bad(String, u64),
+    /// A line that is passed over: it is empty, or begins with `#`.
+    Passed,
+    /// Nothing yet: more is to be read.
+    Unread,
+    /// Nothing more.
+    Over,
+}
+
+/// The lines of a file of URLs.
+#[derive(Drop)]
+pub(crate) struct UrlLines {
+    // Bytes that were read and not returned yet.
+    bytes: Vec<u8>,
+    // Where the next line begins there.
+    from: usize,
+    // Memory that is read into, once there is a read.
+    piece: Vec<u8>,
+    is_at_end: bool,
+    // Number of lines that were returned.
+    number: u64,
+}
+
+impl UrlLines {
+    /// Makes the lines of a file of which nothing was read yet.
+    pub(crate) fn new(alloc: Global) -> UrlLines
+        ensures { lines_shown result ≡ nothing_read }
+    {
+        UrlLines {
+            bytes: Vec::new(alloc),
+            from: 0,
+            piece: Vec::new(alloc),
+            is_at_end: false,
+            number: 0,
+        }
+    }
+
+    /// True if no line is left.
+    pub(crate) fn is_over(&self) -> bool
+        ensures { result ≡ true → HasNoLine (lines_shown self.now) }
+    {
+        self.is_at_end && self.from >= self.bytes.len()
+    }
+
+    /// True if the next line was read whole.
+    pub(crate) fn has_line(&self) -> bool {
+        self.is_at_end || self.pending().contains(&b'\n')
+    }
+
+    /// Returns the next line.
+    ///
+    /// # Errors
+    ///
+    /// There is no memory for it.
+    pub(crate) fn next(&mut self, alloc: Global) -> Result<Line, AllocError>
+        ensures { IfOk result (λ line. IsNextLine line (lines_shown self.old)
+            (lines_shown self.new)) }
+    {
+        let rest = self.pending();
+        let end = place_of(b'\n', rest);
+        if end == rest.len() && !self.is_at_end {
+            return Ok(Line::Unread);
+        }
+        if rest.is_empty() {
+            return Ok(Line::Over);
+        }
+        let number = self.number.saturating_add(1);
+        let line = line_of(alloc, rest.split_at(end).0, number)?;
+        self.from = self.from.saturating_add(end).saturating_add(1);
+        self.number = number;
+        Ok(line)
+    }
+
+    // What was read, and not returned yet.
+    fn pending(&self) -> &[u8]
+        ensures { result.now ≡ (lines_shown self.now).pending }
+    {
+        self.bytes.get(self.from..).unwrap_or(&[])
+    }
+
+    /// Reads more, if no line is there.
+    ///
+    /// # Errors
+    ///
+    /// `Read` if a read failed, `Memory` if there is no memory for what was read.
+    pub(crate) fn read_on<R: Source>(
+        &mut self,
+        alloc: Global,
+        input: &mut R,
+    ) -> Result<(), FaultKind>
+        requires counts { CanCount (R.source input.old) }
+        requires no_line { NeedsMore (lines_shown self.old) }
+        ensures counts_on { OnOk result (CanCount (R.source input.new)) }
+        ensures reads { OnOk result (ReadsFile [] (lines_shown self.old) (lines_shown self.new)
+            (R.source input.old).bytes (R.source input.new).bytes) }
+    {
+        self.drop_given();
+        self.make_piece(alloc)?;
+        let Ok(count) = input.read_some(&mut self.piece) else {
+            return Err(FaultKind::Read);
+        };
+        if count == 0 {
+            self.is_at_end = true;
+            return Ok(());
+        }
+        let read = &self.piece[..count];
+        match self.bytes.extend_from_slice(read) {
+            Ok(()) => Ok(()),
+            Err(_) => Err(FaultKind::Memory),
+        }
+    }
+
+    // Makes the memory that is read into, if there is none yet.
+    fn make_piece(&mut self, alloc: Global) -> Result<(), FaultKind>
+        ensures piece { OnOk result (0 < length self.new.piece.items) }
+        ensures bytes { self.new.bytes.items ≡ self.old.bytes.items }
+        ensures from { self.new.from ≡ self.old.from }
+        ensures is_at_end { self.new.is_at_end ≡ self.old.is_at_end }
+    {
+        if self.piece.is_empty() {
+            self.piece = piece(alloc)?;
+        }
+        Ok(())
+    }
+
+    // Drops what was returned. Of a line that is too long, a front stays that is too long.
+    fn drop_given(&mut self)
+        ensures bytes { self.new.bytes.items ≡ take 2050 (lines_shown self.old).pending }
+        ensures from { self.new.from ≡ 0 }
+        ensures is_at_end { self.new.is_at_end ≡ self.old.is_at_end }
+    {
+        let from = self.from.min(self.bytes.len());
+        drop(self.bytes.drain(..from));
+        self.from = 0;
+        self.bytes.truncate(MOST_BYTES + 2);
+    }
+}
+
+// Memory that is read into.
+fn piece(alloc: Global) -> Result<Vec<u8>, FaultKind>
+    ensures { IfOk result (λ made. 0 < length made.items) }
+{
+    match vec![in alloc; 0; PIECE] {
+        Ok(piece) => Ok(piece),
+        Err(_) => Err(FaultKind::Memory),
+    }
+}
+
+// Returns the kind of a line without its line feed.
+fn line_of(alloc: Global, line: &[u8], number: u64) -> Result<Line, AllocError>
+    ensures { IfOk result (λ one. urls_returned one ≡ Some (urls_on line.now)) }
+{
+    let line = without_return(line);
+    if is_passed(line) {
+        return Ok(Line::Passed);
+    }
+    match str::from_utf8(line) {
+        Ok(url) if line.len() <= MOST_BYTES => {
+            Ok(Line::Url(String::from_str(alloc, url)?, number))
+        }
+        _ => Ok(Line::Bad(String::from_utf8_lossy(alloc, front(line))?, number)),
+    }
+}
+
+// The line without a CR at its end.
+fn without_return(line: &[u8]) -> &[u8]
+    ensures { result.now ≡ strip_carriage_return line.now }
+{
+    match line {
+        [front @ .., b'\r'] => front,
+        _ => line,
+    }
+}
+
+// True if a line is empty, or begins with `#`.
+fn is_passed(line: &[u8]) -> bool
+    ensures { result ≡ is_passed line.now }
+{
+    match line {
+        [] => true,
+        [byte, ..] => *byte == b'#',
+    }
+}
+
+// The bytes of a line that a URL may have.
+fn front(line: &[u8]) -> &[u8]
+    ensures { result.now ≡ take 2048 line.now }
+{
+    let end = MOST_BYTES.min(line.len());
+    &line[..end]
+}

@@ -1,0 +1,187 @@
+//! Look-ups of names on other threads, while a crawl goes on.
+
+ghost use Rattle.std.specs.Prelude.{◌≡◌, ◌+◌, ◌≤◌, ◌<◌, ◌++◌, ◌∷◌, [], false, OnOk};
+ghost use Rattle.std.specs.Prelude.{string_bytes};
+ghost use Rattle.std.specs.VecDeque.{deque_len, deque_capacity};
+ghost use Rattle.client.specs.LookedUp.{IsAnswer};
+
+use crate::crawl::names::{Answer, Names, Resolver};
+use std::alloc::{AllocError, Global};
+use std::collections::VecDeque;
+use std::marker::PhantomData;
+use std::sync::{Condvar, Mutex, Wait};
+use std::time::Duration;
+
+/// The longest wait for an answer, in milliseconds.
+const MOST_WAIT: u64 = 10;
+
+/// A queue of look-ups, which any number of threads carry out: each calls [`LookUps::serve`].
+///
+/// An answer has the name that was asked, and addresses that the resolver returned for that name,
+/// or none. A look-up that runs out of memory has the answer of an unknown host.
+#[derive(Drop)]
+pub struct LookUps<'a, H: Wait, R: Resolver> {
+    waits: &'a H,
+    alloc: Global,
+    state: Mutex<State<R>>,
+    // Notified when a name is added, and when the queue is closed.
+    asked: Condvar,
+    // Notified when an answer is stored.
+    answered: Condvar,
+}
+
+/// The names and the answers, under their lock.
+#[derive(Drop)]
+struct State<R: Resolver> {
+    // Names that no thread has taken yet.
+    asked: VecDeque<String>,
+    answers: VecDeque<Found<R>>,
+    // Number of names whose answers are not stored yet. There is room for each of these.
+    pending: usize,
+    is_closed: bool,
+    ghost room: { deque_len answers + pending ≤ deque_capacity answers },
+}
+
+/// The answer to a name, by a resolver of type `R`.
+#[derive(Drop)]
+struct Found<R: Resolver> {
+    answer: Answer,
+    of: PhantomData<R>,
+    ghost found: { ∥ IsAnswer R.found (string_bytes answer.name) answer.found.items ∥₁ },
+}
+
+impl<R: Resolver> State<R> {
+    // A queue without names.
+    fn new(alloc: Global) -> State<R>
+        ensures none { result.asked.items ≡ [] }
+        ensures pending { result.pending ≡ 0 }
+        ensures open { result.is_closed ≡ false }
+    {
+        State {
+            asked: VecDeque::new(alloc),
+            answers: VecDeque::new(alloc),
+            pending: 0,
+            is_closed: false,
+        }
+    }
+
+    // Adds a name, and reserves room for its answer, which no thread can then fail to store.
+    //
+    // Errors: there is no memory for them.
+    fn ask(&mut self, name: String) -> Result<(), AllocError>
+        ensures asks { OnOk result (self.new.asked.items ≡ self.old.asked.items ++ name ∷ []) }
+        ensures pending { OnOk result (self.new.pending ≡ self.old.pending + 1) }
+        ensures closed { self.new.is_closed ≡ self.old.is_closed }
+    {
+        self.asked.reserve(1)?;
+        self.answers.reserve(self.pending + 1)?;
+        self.pending += 1;
+        self.asked.push_back_reserved(name);
+        Ok(())
+    }
+
+    // Stores an answer in the room that was reserved for it.
+    fn store(&mut self, found: Found<R>)
+        ensures stores { 0 < self.old.pending
+            → self.new.answers.items ≡ self.old.answers.items ++ found ∷ [] }
+        ensures pending { 0 < self.old.pending → self.new.pending + 1 ≡ self.old.pending }
+        ensures closed { self.new.is_closed ≡ self.old.is_closed }
+    {
+        if self.pending > 0 {
+            self.pending -= 1;
+            self.answers.push_back_reserved(found);
+        }
+    }
+}
+
+// Looks up a name. There are no addresses if there is no memory for them.
+fn look_up<R: Resolver>(resolver: &R, alloc: Global, name: String) -> Found<R>
+    ensures { result.answer.name ≡ name }
+{
+    let found = match resolver.look_up(alloc, name.as_str()) {
+        Ok(found) => found,
+        Err(AllocError) => Vec::new(alloc),
+    };
+    Found {
+        answer: Answer { name, found },
+        of: PhantomData,
+    }
+}
+
+impl<'a, H: Wait, R: Resolver> LookUps<'a, H, R> {
+    /// Makes a queue without names, whose calls wait by `waits`.
+    pub fn new(waits: &'a H, alloc: Global) -> LookUps<'a, H, R> {
+        LookUps {
+            waits,
+            alloc,
+            state: Mutex::new(State::new(alloc)),
+            asked: Condvar::new(),
+            answered: Condvar::new(),
+        }
+    }
+
+    /// Looks up one name after another, until the queue is closed. Each call has its own thread.
+    pub fn serve(&self, resolver: &R) {
+        for _ in self.waits.forever() {
+            let Some(name) = self.next_name() else {
+                return;
+            };
+            self.store(look_up(resolver, self.alloc, name));
+        }
+    }
+
+    /// Closes the queue: each call of [`LookUps::serve`] returns after the look-up that it carries
+    /// out. Names that no thread has taken are not looked up.
+    pub fn close(&self) {
+        self.state.lock(self.waits).is_closed = true;
+        self.asked.notify_all();
+    }
+
+    // Waits for a name, and takes it. Returns none once the queue is closed.
+    fn next_name(&self) -> Option<String> {
+        let state = self.state.lock(self.waits);
+        let mut state = self.asked.wait_while(self.waits, state, |state| {
+            state.asked.is_empty() && !state.is_closed
+        });
+        if state.is_closed {
+            return None;
+        }
+        state.asked.pop_front()
+    }
+
+    // Stores an answer, and wakes up the caller that waits for it.
+    fn store(&self, found: Found<R>) {
+        self.state.lock(self.waits).store(found);
+        self.answered.notify_one();
+    }
+}
+
+impl<H: Wait, R: Resolver> Names for LookUps<'_, H, R> {
+    ghost use Rattle.client.specs.LookedUp.{IsAnswer};
+
+    ghost found = { λ name addresses. ∥ IsAnswer R.found name addresses ∥₁ };
+
+    fn ask(&self, name: &str) -> Result<(), AllocError> {
+        let name = name.to_string(self.alloc)?;
+        self.state.lock(self.waits).ask(name)?;
+        self.asked.notify_one();
+        Ok(())
+    }
+
+    fn answer(&self) -> Option<Answer> {
+        let found = self.state.lock(self.waits).answers.pop_front()?;
+        Some(found.answer)
+    }
+
+    fn has_answer(&self) -> bool {
+        !self.state.lock(self.waits).answers.is_empty()
+    }
+
+    fn wait(&self) {
+        let seen = self.answered.notifications();
+        if !self.has_answer() {
+            self.answered
+                .sleep(self.waits, seen, Duration::from_millis(MOST_WAIT));
+        }
+    }
+}

@@ -1,0 +1,34 @@
+//! Networks that a crawl works on.
+
+use crate::crawl::crawler::Crawler;
+use crate::crawl::fault::NetworkFault;
+use crate::crawl::names::Names;
+use crate::options::CrawlOptions;
+use std::alloc::Global;
+
+/// A network, on which connections are opened, and names of hosts are looked up.
+pub trait Network {
+    ghost use Rattle.std.specs.Prelude.{IfOk};
+
+    /// Carries out the jobs of a crawl. It must be finished.
+    type Crawler: Crawler;
+
+    type Names: Names;
+
+    /// Opens a crawler with these options, with places for `hosts` hosts.
+    ///
+    /// # Errors
+    ///
+    /// `Memory` if memory ran out, `Descriptors` if none is left, `Poll` if the system cannot wait
+    /// for connections for another reason.
+    fn open(
+        &self,
+        alloc: Global,
+        options: CrawlOptions,
+        hosts: u32,
+    ) -> Result<Self::Crawler, NetworkFault>
+        ensures { IfOk result Self.Crawler.stands };
+
+    /// The look-ups of names.
+    fn names(&self) -> &Self::Names;
+}

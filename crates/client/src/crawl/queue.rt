@@ -1,0 +1,486 @@
+//! The URLs of a crawl that are not in flight yet.
+
+ghost use Rattle.std.specs.Prelude.{◌≡◌, ◌≢◌, ◌++◌, ◌∷◌, ◌-◌, ◌<◌, ◌≤◌, [], true, None, Some, All};
+ghost use Rattle.std.specs.Prelude.{ℕ, List, Option};
+ghost use Rattle.std.specs.List.{AllZip};
+ghost use Rattle.std.specs.Prelude.{length, option_to_list, string_bytes};
+ghost use Rattle.std.specs.Prelude.{IfErr, IfNone, IfOk, IfSome, OnOk, OnSome};
+ghost use Rattle.script_run.specs.Streams.{CanCount};
+ghost use Rattle.client.specs.Crawling.{crawl_given, line_fault, queue_given};
+ghost use Rattle.client.specs.FileLines.{HasNoLine, NeedsMore};
+ghost use Rattle.client.specs.Hosts.{AreAwaited, IsNoted, KeepsAwaited, is_awaited};
+ghost use Rattle.client.specs.Reading.{AddsUrl, Reads, ReadsOn, TakesOut, queue_shown};
+ghost use Rattle.client.specs.Reading.{url_queued};
+ghost use Rattle.client.specs.Sorting.{KeepsAll, KeepsHosts, KeepsOthers, KeepsQueue, Sorts};
+ghost use Rattle.client.specs.Steps.{IsJobOf, want_of};
+ghost use Rattle.client.specs.Written.{urls_in_flight};
+ghost use Rattle.client.specs.declared.options.UrlFile.TheVariants.{None as NoFile};
+
+use crate::crawl::Crawl;
+use crate::crawl::crawler::Crawler;
+use crate::crawl::fault::CrawlFault;
+use crate::crawl::hosts::Hosts;
+use crate::crawl::in_flight::InFlight;
+use crate::crawl::lines::{Line, UrlLines};
+use crate::crawl::names::Names;
+use crate::crawl::placed::Placed;
+use crate::crawl::queued::Queued;
+use crate::crawl::route::Route;
+use crate::crawl::window::Window;
+use crate::options::{CrawlOptions, UrlFile};
+use crate::url::{UrlFault, url_target};
+use conn_log::Want;
+use exchange::Job;
+use run_loop::Until;
+use script_run::Source;
+use script_text::FaultKind;
+use std::alloc::Global;
+use std::collections::VecDeque;
+
+/// Number of URLs that are read ahead.
+const MOST_AHEAD: usize = 256;
+
+/// Number of lines that are read before transfers go on.
+const MOST_LINES: usize = 4_096;
+
+/// The URLs of a crawl that are not in flight yet.
+#[derive(Drop)]
+pub(crate) struct Queue {
+    alloc: Global,
+    options: CrawlOptions,
+    file: UrlFile,
+    // The URLs among the words that were not read yet; the last is next.
+    urls: Vec<String>,
+    lines: UrlLines,
+    // The line of the bad URL that ends the crawl, if there is one; 0 is no line.
+    bad_line: Option<u64>,
+    // The URLs that were read, in order.
+    queued: VecDeque<Queued>,
+    // The number of the next job.
+    number: u64,
+    hosts: Hosts,
+    // A queued URL waits for the addresses of its host.
+    awaits_name: bool,
+}
+
+impl Queue {
+    /// Makes the queue of a crawl, of which nothing was read yet.
+    pub(crate) fn new(crawl: Crawl) -> Queue
+        ensures shown { (bytes : Option (List ℕ))
+            → queue_shown result ≡ queue_given (crawl_given crawl bytes) }
+    {
+        let Crawl {
+            alloc,
+            options,
+            urls,
+            file,
+            resolved,
+        } = crawl;
+        let mut urls = urls;
+        urls.reverse();
+        Queue {
+            alloc,
+            options,
+            file,
+            urls,
+            lines: UrlLines::new(alloc),
+            bad_line: None,
+            queued: VecDeque::new(alloc),
+            number: 0,
+            hosts: Hosts::new(alloc, resolved),
+            awaits_name: false,
+        }
+    }
+
+    /// True if no URL is left to be read or begun, once nothing is in flight and no URL waits for
+    /// addresses.
+    pub(crate) fn is_over(&self) -> bool
+        ensures words { result ≡ true → self.now.bad_line ≡ None
+            → ((queue_shown self.now).left ≡ []) × ((queue_shown self.now).queued ≡ []) }
+        ensures lines { result ≡ true → self.now.bad_line ≡ None
+            → self.now.file ≢ NoFile → HasNoLine (queue_shown self.now).lines }
+    {
+        if self.bad_line.is_some() {
+            return true;
+        }
+        self.queued.is_empty() && self.is_read()
+    }
+
+    // True if no URL is left to be read.
+    fn is_read(&self) -> bool
+        ensures words { result ≡ true → (queue_shown self.now).left ≡ [] }
+        ensures lines { result ≡ true → self.now.file ≢ NoFile
+            → HasNoLine (queue_shown self.now).lines }
+    {
+        self.urls.is_empty() && (self.file == UrlFile::None || self.lines.is_over())
+    }
+
+    /// How a crawl ends whose queue is over.
+    ///
+    /// # Errors
+    ///
+    /// `BadUrl` if a bad URL ends it.
+    pub(crate) fn end(&self) -> Result<(), CrawlFault>
+        ensures whole { OnOk result (self.now.bad_line ≡ None) }
+        ensures other { IfErr result (λ fault. line_fault (Some fault) ≡ None) }
+    {
+        match self.bad_line {
+            Some(line) => Err(CrawlFault::BadUrl(line)),
+            None => Ok(()),
+        }
+    }
+
+    /// The event after which more URLs may be read or begun.
+    pub(crate) fn until(&self) -> Until {
+        if !self.queued.is_empty() {
+            return Until::Freed;
+        }
+        if self.bad_line.is_some() || self.is_read() {
+            return Until::Ended;
+        }
+        if self.reads_at_once() {
+            Until::Begun
+        } else {
+            Until::Freed
+        }
+    }
+
+    // True if the next URL can be read without a wait.
+    fn reads_at_once(&self) -> bool {
+        !self.urls.is_empty() || self.file == UrlFile::Regular || self.lines.has_line()
+    }
+
+    /// True if more of the file is wanted, once a read of it does not wait.
+    pub(crate) fn wants_input(&self) -> bool {
+        let has_more = self.file == UrlFile::Waiting && !self.lines.is_over();
+        has_more && self.bad_line.is_none() && self.queued.len() < MOST_AHEAD
+    }
+
+    /// Reads URLs ahead. A read that may wait is done only if nothing is in flight, as `is_idle`
+    /// says, and no URL is queued.
+    ///
+    /// # Errors
+    ///
+    /// `Read` if a read failed, `Memory` if memory ran out.
+    pub(crate) fn read_ahead<R: Source>(
+        &mut self,
+        input: &mut R,
+        is_idle: bool,
+    ) -> Result<(), FaultKind>
+        requires counts { CanCount (R.source input.old) }
+        ensures counts_on { OnOk result (CanCount (R.source input.new)) }
+        ensures reads { OnOk result (Reads (queue_shown self.old) (queue_shown self.new)
+            (R.source input.old).bytes (R.source input.new).bytes) }
+        ensures hosts { KeepsHosts self.old self.new }
+    {
+        for _ in 0..MOST_LINES {
+            if self.bad_line.is_some() || self.queued.len() >= MOST_AHEAD {
+                return Ok(());
+            }
+            if !self.read_one(input, is_idle)? {
+                return Ok(());
+            }
+        }
+        Ok(())
+    }
+
+    // Reads the next URL, or more of the file. Returns false if no more can be read now.
+    fn read_one<R: Source>(&mut self, input: &mut R, is_idle: bool) -> Result<bool, FaultKind>
+        requires counts { CanCount (R.source input.old) }
+        ensures counts_on { OnOk result (CanCount (R.source input.new)) }
+        ensures reads { OnOk result (Reads (queue_shown self.old) (queue_shown self.new)
+            (R.source input.old).bytes (R.source input.new).bytes) }
+        ensures hosts { KeepsHosts self.old self.new }
+    {
+        if let Some(url) = self.urls.pop() {
+            return self.add(url, 0);
+        }
+        if self.file == UrlFile::None {
+            return Ok(false);
+        }
+        match self.lines.next(self.alloc) {
+            Ok(Line::Url(url, line)) => self.add(url, line),
+            Ok(Line::Bad(url, line)) => self.add_bad(url, line),
+            Ok(Line::Passed) => Ok(true),
+            Ok(Line::Unread) => self.read_on(input, is_idle),
+            Ok(Line::Over) => Ok(false),
+            Err(_) => Err(FaultKind::Memory),
+        }
+    }
+
+    // Reads more of the file, if the read does not wait, or may.
+    fn read_on<R: Source>(&mut self, input: &mut R, is_idle: bool) -> Result<bool, FaultKind>
+        requires counts { CanCount (R.source input.old) }
+        requires no_line { NeedsMore (queue_shown self.old).lines }
+        ensures counts_on { OnOk result (CanCount (R.source input.new)) }
+        ensures reads { OnOk result (ReadsOn (queue_shown self.old) (queue_shown self.new)
+            (R.source input.old).bytes (R.source input.new).bytes) }
+        ensures hosts { KeepsHosts self.old self.new }
+    {
+        let may_wait = is_idle && self.queued.is_empty();
+        if !may_wait && self.file != UrlFile::Regular && !input.is_ready() {
+            return Ok(false);
+        }
+        self.lines.read_on(self.alloc, input)?;
+        Ok(true)
+    }
+
+    // Adds a URL to the queue, with where it leads to. `line` is its line of the file, if it has
+    // one.
+    fn add(&mut self, url: String, line: u64) -> Result<bool, FaultKind>
+        ensures added { OnOk result (AddsUrl (string_bytes url) (queue_shown self.old)
+            (queue_shown self.new)) }
+        ensures hosts { KeepsHosts self.old self.new }
+    {
+        match url_target(self.alloc, url.as_str()) {
+            Ok(target) => {
+                let route = Route::To(target);
+                self.push(Queued { url, route })
+            }
+            Err(UrlFault::Memory) => Err(FaultKind::Memory),
+            Err(_) => self.add_bad(url, line),
+        }
+    }
+
+    // Adds a bad URL to the queue. It ends the crawl unless it is to be passed over.
+    fn add_bad(&mut self, url: String, line: u64) -> Result<bool, FaultKind>
+        ensures added { OnOk result (AddsUrl (string_bytes url) (queue_shown self.old)
+            (queue_shown self.new)) }
+        ensures hosts { KeepsHosts self.old self.new }
+    {
+        if !self.options.flags.skip_bad {
+            self.bad_line = Some(line);
+        }
+        let route = Route::Bad;
+        self.push(Queued { url, route })
+    }
+
+    // Adds a URL to the queue.
+    fn push(&mut self, one: Queued) -> Result<bool, FaultKind>
+        ensures added { OnOk result (AddsUrl (string_bytes one.url) (queue_shown self.old)
+            (queue_shown self.new)) }
+        ensures hosts { KeepsHosts self.old self.new }
+    {
+        match self.queued.push_back(one) {
+            Ok(()) => Ok(true),
+            Err(_) => Err(FaultKind::Memory),
+        }
+    }
+
+    /// Takes a bad URL out of the queue, if bad URLs are passed over: the first one, or if one
+    /// transfer is in flight at a time, the next URL, once nothing is, as `is_idle` says.
+    pub(crate) fn take_bad(&mut self, is_idle: bool) -> Option<String>
+        ensures takes { IfSome result (λ url. TakesOut (string_bytes url ∷ [])
+            (queue_shown self.old) (queue_shown self.new)) }
+        ensures skips { OnSome result (self.old.options.flags.skip_bad ≡ true) }
+        ensures idle { OnSome result (self.old.options.parallel ≡ 1 → is_idle ≡ true) }
+        ensures none { IfNone result (queue_shown self.new ≡ queue_shown self.old) }
+        ensures fewer { OnSome result
+            (length self.new.queued.items < length self.old.queued.items) }
+        ensures hosts { KeepsHosts self.old self.new }
+    {
+        if !self.options.flags.skip_bad {
+            return None;
+        }
+        let place = self.next_bad(is_idle)?;
+        let Queued { url, route: _ } = self.queued.remove(place)?;
+        Some(url)
+    }
+
+    // Returns the place of the bad URL that may be taken out of the queue, if there is one.
+    fn next_bad(&self, is_idle: bool) -> Option<usize>
+        ensures idle { OnSome result (self.now.options.parallel ≡ 1 → is_idle ≡ true) }
+        ensures first { IfSome result (λ place. self.now.options.parallel ≡ 1 → place ≡ 0) }
+    {
+        if self.options.parallel == 1 {
+            let is_next = is_idle && self.queued.front().is_some_and(|one| one.is_bad());
+            return is_next.then_some(0);
+        }
+        self.queued.iter().position(|one| one.is_bad())
+    }
+
+    /// Records the answers of look-ups that have arrived.
+    ///
+    /// # Errors
+    ///
+    /// There is no memory for them.
+    pub(crate) fn learn<N: Names>(&mut self, names: &N) -> Result<(), FaultKind>
+        ensures same { queue_shown self.new ≡ queue_shown self.old }
+        ensures hosts { KeepsHosts self.old self.new }
+    {
+        match self.hosts.learn(names) {
+            Ok(()) => Ok(()),
+            Err(_) => Err(FaultKind::Memory),
+        }
+    }
+
+    /// Records that these transfers are in flight, and no others.
+    pub(crate) fn settle(&mut self, in_flight: &[InFlight])
+        ensures same { queue_shown self.new ≡ queue_shown self.old }
+        ensures noted { All (IsNoted self.new.hosts.awaited.items) in_flight.now }
+    {
+        self.hosts.settle(in_flight);
+    }
+
+    /// Number of transfers that may begin next to `in_flight` others.
+    pub(crate) fn room(&self, in_flight: usize) -> usize
+        ensures { result ≡ self.now.options.parallel - in_flight }
+    {
+        (self.options.parallel as usize).saturating_sub(in_flight)
+    }
+
+    /// True if a URL waits for the addresses of its host.
+    pub(crate) fn awaits_name(&self) -> bool {
+        self.awaits_name
+    }
+
+    /// Takes the URLs out of the queue whose transfers begin next, at most `free`. Each stays until
+    /// its host has a place.
+    ///
+    /// # Errors
+    ///
+    /// There is no memory for them.
+    pub(crate) fn window<N: Names, C: Crawler>(
+        &mut self,
+        free: usize,
+        names: &N,
+        crawler: &mut C,
+    ) -> Result<Window, FaultKind>
+        requires stands { C.stands crawler.old }
+        ensures stands { C.stands crawler.new }
+        ensures takes { IfOk result (λ window. TakesOut (urls_in_flight window.urls.items)
+            (queue_shown self.old) (queue_shown self.new)) }
+        ensures jobs { IfOk result (λ window. AllZip (IsJobOf self.old.options)
+            window.jobs.items window.urls.items) }
+        ensures few { IfOk result (λ window. length window.urls.items ≤ free) }
+        ensures keeps { KeepsAwaited self.old.hosts.table self.new.hosts.table
+            self.old.hosts.awaited.items self.new.hosts.awaited.items }
+        ensures awaits { IfOk result (λ window.
+            AreAwaited self.new.hosts.awaited.items window.urls.items) }
+    {
+        let mut window = Window::new(self.alloc);
+        self.awaits_name = false;
+        while let Some(one) = self.next(free, &window) {
+            self.sort(one, &mut window, names, crawler)?;
+        }
+        self.put_back(&mut window.waiting)?;
+        Ok(window)
+    }
+
+    // Takes the next URL that may begin, if there is room for its transfer. It may overtake those
+    // that wait unless one transfer is in flight at a time.
+    fn next(&mut self, free: usize, window: &Window) -> Option<Queued>
+        ensures takes { self.old.queued.items ≡ option_to_list result ++ self.new.queued.items }
+        ensures room { OnSome result (length window.now.urls.items < free) }
+        ensures first { OnSome result
+            (self.old.options.parallel ≡ 1 → window.now.waiting.items ≡ []) }
+        ensures fewer { OnSome result
+            (length self.new.queued.items < length self.old.queued.items) }
+        ensures same { KeepsOthers self.old self.new }
+    {
+        if window.urls.len() >= free {
+            return None;
+        }
+        if self.options.parallel == 1 && !window.waiting.is_empty() {
+            return None;
+        }
+        self.queued.pop_front()
+    }
+
+    // Begins the transfer of a URL, if its host has a place; else the URL has to wait.
+    fn sort<N: Names, C: Crawler>(
+        &mut self,
+        one: Queued,
+        window: &mut Window,
+        names: &N,
+        crawler: &mut C,
+    ) -> Result<(), FaultKind>
+        requires stands { C.stands crawler.old }
+        ensures stands { C.stands crawler.new }
+        ensures sorts { OnOk result (Sorts self.old.options (url_queued one) window.old
+            window.new) }
+        ensures same { KeepsQueue self.old self.new }
+        ensures keeps { KeepsAwaited self.old.hosts.table self.new.hosts.table
+            self.old.hosts.awaited.items self.new.hosts.awaited.items }
+        ensures awaits { OnOk result (AreAwaited self.old.hosts.awaited.items window.old.urls.items
+            → AreAwaited self.new.hosts.awaited.items window.new.urls.items) }
+    {
+        let Queued { url, route } = one;
+        let Route::To(target) = route else {
+            let route = Route::Bad;
+            return window.pass(Queued { url, route });
+        };
+        match self.hosts.place(&target, names, crawler) {
+            Ok(Placed::At(place)) => {
+                let route = Route::To(target);
+                self.begin(Queued { url, route }, place, window)
+            }
+            Ok(placed) => {
+                self.awaits_name |= placed == Placed::Unresolved;
+                let route = Route::To(target);
+                window.pass(Queued { url, route })
+            }
+            Err(_) => Err(FaultKind::Memory),
+        }
+    }
+
+    // Begins the transfer of a URL at that place, with the next number.
+    fn begin(&mut self, one: Queued, place: u32, window: &mut Window) -> Result<(), FaultKind>
+        ensures begins { OnOk result (Sorts self.old.options (url_queued one) window.old
+            window.new) }
+        ensures same { KeepsAll self.old self.new }
+        ensures awaits { OnOk result (is_awaited self.old.hosts.awaited.items place ≡ true
+            → AreAwaited self.old.hosts.awaited.items window.old.urls.items
+            → AreAwaited self.old.hosts.awaited.items window.new.urls.items) }
+    {
+        let Queued { url, route } = one;
+        let Route::To(target) = route else {
+            let route = Route::Bad;
+            return window.pass(Queued { url, route });
+        };
+        let number = self.number;
+        self.number = number.saturating_add(1);
+        let job = Job {
+            site: place,
+            want: self.want(number),
+            method: self.options.method,
+            target,
+        };
+        let is_unknown = self.hosts.is_unknown(place);
+        let url = InFlight {
+            number,
+            url,
+            place,
+            is_unknown,
+        };
+        window.add(job, url)
+    }
+
+    // Puts the URLs that have to wait back to the front of the queue.
+    fn put_back(&mut self, waiting: &mut Vec<Queued>) -> Result<(), FaultKind>
+        ensures back { OnOk result
+            (self.new.queued.items ≡ waiting.old.items ++ self.old.queued.items) }
+        ensures same { KeepsOthers self.old self.new }
+    {
+        while let Some(one) = waiting.pop() {
+            if self.queued.push_front(one).is_err() {
+                return Err(FaultKind::Memory);
+            }
+        }
+        Ok(())
+    }
+
+    // The request to the cache for the transfer of that number.
+    fn want(&self, transfer: u64) -> Want
+        ensures { result ≡ want_of self.now.options transfer }
+    {
+        Want {
+            transfer,
+            max_age: self.options.max_age,
+            max_life: self.options.max_life,
+            lane: 0,
+            fresh: self.options.flags.fresh,
+            forbid_reuse: false,
+        }
+    }
+}

@@ -1,0 +1,22 @@
+//! URLs that were read.
+
+ghost use Rattle.std.specs.Prelude.{string_bytes};
+ghost use Rattle.client.specs.Leading.{LeadsAs};
+
+use crate::crawl::route::Route;
+
+/// A URL that was read, and is not in flight yet.
+#[derive(Drop)]
+pub(crate) struct Queued {
+    /// The URL as it was given.
+    pub(crate) url: String,
+    pub(crate) route: Route,
+    ghost leads: { ∥ LeadsAs (string_bytes url) route ∥₁ },
+}
+
+impl Queued {
+    /// True if the URL is bad.
+    pub(crate) fn is_bad(&self) -> bool {
+        matches!(self.route, Route::Bad)
+    }
+}

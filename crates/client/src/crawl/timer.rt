@@ -1,0 +1,62 @@
+//! The time of a crawl, and its bell.
+
+use crate::crawl::crawler::Signals;
+use exchange::Clock;
+use run_loop::{MicroClock, Timer, is_late};
+use std::sync::atomic::{AtomicBool, Ordering};
+
+/// The time of a crawl: it stops a transfer that has reached its time limit, and all of them once
+/// the crawl is over. Its bell rings once, for news from outside.
+#[derive(Drop)]
+pub(crate) struct CrawlTimer<'a, T: MicroClock, S: Signals> {
+    pub(crate) clock: &'a T,
+    /// The time limit of a transfer, in microseconds.
+    pub(crate) limit: u64,
+    /// Number of rings before.
+    pub(crate) rings: u64,
+    /// Its bell has rung.
+    pub(crate) has_rung: &'a AtomicBool,
+    pub(crate) signals: &'a S,
+}
+
+impl<T: MicroClock, S: Signals> Clock for CrawlTimer<'_, T, S> {
+    ghost tells = { λ timer moment. T.tells timer.clock.now moment };
+
+    fn now(&self) -> u64 {
+        self.clock.now()
+    }
+
+    fn micros(&self) -> u64 {
+        self.clock.micros()
+    }
+}
+
+impl<T: MicroClock, S: Signals> MicroClock for CrawlTimer<'_, T, S> {
+    ghost tells_micros = { λ timer moment. T.tells_micros timer.clock.now moment };
+
+    fn moment(&self) -> u64 {
+        self.clock.moment()
+    }
+}
+
+impl<T: MicroClock, S: Signals> Timer for CrawlTimer<'_, T, S> {
+    ghost use Rattle.std.specs.Prelude.{⊤};
+
+    ghost may_stop = { λ timer number. ⊤ };
+
+    fn stops(&self, _number: u64, began: u64, now: u64) -> bool {
+        now == u64::MAX || is_late(began, now, self.limit)
+    }
+
+    fn is_over(&self) -> bool {
+        self.signals.is_over()
+    }
+
+    fn rings(&self) -> u64 {
+        if !self.has_rung.load(Ordering::SeqCst) && self.signals.has_news() {
+            self.has_rung.store(true, Ordering::SeqCst);
+        }
+        let more = self.has_rung.load(Ordering::SeqCst) as u64;
+        self.rings.saturating_add(more)
+    }
+}
