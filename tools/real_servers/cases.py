@@ -17,9 +17,6 @@ import re
 from . import servers
 from .servers import LATER, SOON, nobody
 
-# options of curlpool get, for blocking sockets and for nonblocking ones; both write lines in the order of the URLs
-KINDS = ((), ("--parallel", "1"))
-
 
 @dataclasses.dataclass(frozen=True)
 class Case:
@@ -81,7 +78,10 @@ def is_good(answer):
 # a server that answers late: the connections of the other one are idle meanwhile
 LATE = servers.takes(LATER / 1_000)
 
-# over both kinds of sockets
+# a response to A, one of B meanwhile, and one of A again
+UNASKED = Case("an unasked answer, beside curl", (servers.answers_unasked, LATE), "2 new, new retried", 3,
+               opened=3, retried=1)
+
 CASES = [
     # nginx closes with the thousandth response where nothing is set
     Case("nginx, nothing set", ("nginx",), "new, 999 reused", 1_010, opened=2, reused=1_008),
@@ -135,14 +135,6 @@ CASES = [
     Case("the address ::1", (servers.lasts,), "new, then reused", 300, opened=1, reused=299, address="[::1]"),
     Case("localhost, where only ::1 listens", (servers.lasts,), "new, then reused", 300, opened=1, reused=299,
          address="localhost"),
-]
-
-# a response to A, one of B meanwhile, and one of A again
-UNASKED = Case("an unasked answer, beside curl", (servers.answers_unasked, LATE), "2 new, new retried", 3,
-               opened=3, retried=1)
-
-# over blocking sockets alone, if no option says otherwise
-GET_CASES = [
     Case("HEAD", (servers.lasts,), "new, then reused", 100, opened=1, reused=99, has_bodies=False,
          options=("--head",)),
     Case("HEAD of nginx", ("nginx",), "new, then reused", 100, opened=1, reused=99, has_bodies=False,
@@ -151,6 +143,4 @@ GET_CASES = [
     Case("idle for too long", (servers.lasts, servers.takes(3)), "3 new", 3, opened=3, options=("--max-age", "1")),
     UNASKED,
     Case("a name in /etc/hosts", (servers.lasts,), "new, then reused", 100, opened=1, reused=99, is_named=True),
-    Case("a name in /etc/hosts, as a crawl", (servers.lasts,), "new, then reused", 100, opened=1, reused=99,
-         options=("--parallel", "1"), is_named=True),
 ]
