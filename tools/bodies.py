@@ -17,6 +17,7 @@ it calls, so a refused one takes no other with it. An edit is refused if
 
 Anything else is a failure: an edit that proves, one that does not compile, one whose text has moved.
 """
+import itertools
 import os
 import re
 import shutil
@@ -117,6 +118,12 @@ def type_of_impl(head):
         word[0].upper() + word[1:] for word in words_in(arguments) if word not in own)
 
 
+def head_from(lines, first, begin):
+    """The head of an impl that begins on that line, which may go on below: the text up to its `{`."""
+    rest = itertools.takewhile(lambda line: not line.startswith("}"), lines[first + 1 :])
+    return " ".join((begin, *map(str.strip, rest))).partition("{")[0].strip()
+
+
 def end_of(lines, first, indentation):
     """The line that closes what begins there."""
     return next((line for line in range(first, len(lines)) if lines[line] == f"{indentation}}}"), first)
@@ -137,7 +144,7 @@ def scope_of(path, lines, first, last):
     for line in range(first, -1, -1):
         begins = IMPL.match(lines[line])
         if begins and end_of(lines, line, begins[1]) >= last:
-            return type_of_impl(begins[2].strip().removesuffix("{"))
+            return type_of_impl(head_from(lines, line, begins[2]))
     inside = os.path.splitext(path)[0].split("/")[1:]
     return "::".join(inside) if inside[-1] not in ("lib", "main") else "crate"
 
