@@ -8,11 +8,12 @@ use cli::{
 };
 use client::LookUps;
 use script_run::{FailureCounted, SystemFiles};
+use std::alloc::Global;
 use std::fs::{self, File};
 use std::io::{self, IsTerminal};
 use std::process::ExitCode;
 use std::sync::Wait;
-use std::thread::{self, Builder, Scope, scope_env};
+use std::thread::{self, Builder, JoinHandle, Scope, scope_env};
 
 /// Takes a descriptor, which can be neither read nor written. One of a standard stream that was
 /// closed would else be the next socket's, and a server would get what is told.
@@ -20,19 +21,22 @@ fn taken_descriptor(rt: &HostRuntime) -> io::Result<File> {
     fs::open(rt, "/")
 }
 
-/// Starts threads that look up names, at most `threads`. Returns true if one was started.
+/// Starts threads that look up names, at most `count`, and returns them.
 fn start_threads<'s, 'a: 's, E: 's, H: Wait + Sync>(
+    alloc: Global,
     scope: &'s Scope<'s, E>,
     look_ups: &'s LookUps<'a, H, SystemResolver<'a>>,
     resolver: SystemResolver<'a>,
-    threads: u32,
-) -> bool {
-    let mut has_threads = false;
-    for _ in 0..threads {
-        let started = Builder::new().spawn_scoped(scope, move || look_ups.serve(&resolver));
-        has_threads |= started.is_ok();
+    count: u32,
+) -> Vec<JoinHandle<()>> {
+    let mut threads = Vec::new(alloc);
+    for _ in 0..count {
+        if let Ok(thread) = Builder::new().spawn_scoped(scope, move || look_ups.serve(&resolver)) {
+            // without memory to keep it, the thread ends by itself
+            let _ = threads.push(thread);
+        }
     }
-    has_threads
+    threads
 }
 
 fn main(rt: HostRuntime) -> ExitCode {
@@ -46,9 +50,10 @@ fn main(rt: HostRuntime) -> ExitCode {
         let mut memory = CountedArgsAlloc::new(rt.alloc());
         let mut files = SystemFiles::new(&rt);
         let words = given_words(&rt);
-        let threads = look_up_threads(&words);
-        let has_threads = start_threads(scope, &look_ups, SystemResolver::new(&rt), threads);
-        let network = SystemNetwork::new(&rt, &rt, &look_ups, has_threads);
+        let resolver = SystemResolver::new(&rt);
+        let count = look_up_threads(&words);
+        let threads = start_threads(rt.alloc(), scope, &look_ups, resolver, count);
+        let network = SystemNetwork::new(&rt, &rt, &look_ups, !threads.is_empty());
         let stdin = rt.stdin();
         let is_typed = stdin.is_terminal();
         let mut input = FailureCounted::with_descriptor(stdin);
@@ -67,6 +72,9 @@ fn main(rt: HostRuntime) -> ExitCode {
             &mut errors,
         );
         look_ups.close();
+        for thread in threads {
+            thread.join(&rt);
+        }
         status
     });
     ExitCode::from(status)

@@ -37,7 +37,7 @@ impl Resolver for SystemResolver<'_> {
 
 /// Returns the number of threads that may look up names for a program with these words: none
 /// unless they begin with `get`, and name a host that is neither an address nor `localhost`, or a
-/// file. Without threads a name is looked up where it is asked for.
+/// file. Without threads, the thread that asks for a name looks it up.
 pub fn look_up_threads(words: &Words) -> u32 {
     let Words::Given(words) = words else {
         return 0;
@@ -63,12 +63,12 @@ fn more_threads(word: &str, threads: u32) -> u32 {
     }
 }
 
-// True if a word is a URL whose host is neither an address nor `localhost`.
+// True if a word is an `http` URL whose host is neither an address nor `localhost`.
 fn names_host(word: &str) -> bool {
     match word.split_once("://") {
-        Some((_, rest)) => {
+        Some((scheme, rest)) => {
             let is_address = rest.starts_with(|c| c == '[' || ('0' <= c && c <= '9'));
-            !is_address && !rest.starts_with("localhost")
+            scheme.eq_ignore_ascii_case("http") && !is_address && !rest.starts_with("localhost")
         }
         None => false,
     }
