@@ -1,18 +1,18 @@
--- Why the URLs of a plan are refused, which are good, and that a plan has some.
+-- The URLs of a plan: bad and good ones, and that there is one.
 use Rattle.std.proofs.Common.{◌≡◌, ℕ, ◌+◌, ◌<◌, ◌≤◌, true, false, List, [], ◌∷◌, ◌++◌, length, get_or, take, map, ap, sym, ◌∙◌, subst, string_bytes}
 use Rattle.std.specs.Prelude.{String, Option, None, Some, ◌==◌, is_some, option_map}
 use Rattle.std.specs.Global.{Global}
 use Rattle.std.specs.List.{All}
 use Rattle.std.proofs.lemmas.List.{length-map, get_or-map, map_more, take_all}
 use Rattle.std.proofs.lemmas.List.Elements.{All-push}
-use Rattle.cli.specs.GetPlans.{IsWhyOfUrl, IsWhyOfUrls}
+use Rattle.cli.specs.GetPlans.{IsUrlRefused, AreUrlsRefused}
 use Rattle.cli.specs.GetWords.{IsGoodUrl}
 use Rattle.cli.specs.declared.get.plan.GetRefusal.{GetRefusal}
 use Rattle.cli.specs.declared.get.plan.GetRefusal.TheVariants.{Memory, Wrong}
 
 -- a bad URL is why, if memory did not run out
-pub why-of-urls : (urls : List (String Global)) (k : ℕ) (url : String Global) (refusal : GetRefusal) → k < length urls → url ≡ get_or urls k url → IsWhyOfUrl (string_bytes url) refusal
-    → IsWhyOfUrls (map string_bytes urls) refusal
+pub why-of-urls : (urls : List (String Global)) (k : ℕ) (url : String Global) (refusal : GetRefusal) → k < length urls → url ≡ get_or urls k url → IsUrlRefused (string_bytes url) refusal
+    → AreUrlsRefused (map string_bytes urls) refusal
 why-of-urls urls k url Memory below at why = tt
 why-of-urls urls k url (Wrong text) below at why =
     (k, string_bytes url, subst (λ n. k < n) (sym (length-map urls string_bytes)) below, get_or-map string_bytes urls k url (string_bytes url) below ∙ ap string_bytes (sym at), why)

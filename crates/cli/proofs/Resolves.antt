@@ -1,4 +1,4 @@
--- What values of `--resolve` give.
+-- Addresses by the values of `--resolve`.
 use Rattle.std.proofs.Common.{◌≡◌, ℕ, ◌<◌, List, [], ◌∷◌, ◌++◌, length, get_or, drop, map, ap, sym, refl, ◌∙◌, subst, inl, inr, string_bytes}
 use Rattle.std.specs.Prelude.{String, Option, None, Some, IfNone}
 use Rattle.std.specs.Global.{Global}

@@ -276,8 +276,8 @@ pub record AnswersPlan (Runs : Stream → Stream → ℕ → Type 0) (unread lef
 abbrev pub LoadRun : Type 1
 LoadRun = LoadPlan → Stream → Stream → ℕ → Type 0
 
--- what is done for a request, and the status: a script is run, a plan or a load carried out, or a trace judged; help or the
--- version is told; words that are refused, and want of memory while they are read, end the program at once
+-- a request is answered, with its status: a script, a plan or a load runs, or a trace is judged; help or the version is
+-- printed; refused words, and an allocation failure while they are read, end the program at once
 abbrev pub AnswersRequest : Opening → PlanRun → LoadRun → Request → Stream → Stream → Stream → Stream → ℕ → Type 0
 AnswersRequest Opens Runs Loads (requests.Script words) unread left old new status = AnswersDrawn (option_map string_bytes words.picture) Opens (name_of words.input) words.is_traced unread left old new status
 AnswersRequest Opens Runs Loads (requests.Get plan) unread left old new status = Runs plan unread left old new status

@@ -1,4 +1,4 @@
--- What `get` does.
+-- The subcommand `get`.
 use Rattle.std.specs.Option.{option_map}
 use Rattle.std.specs.Prelude.{◌≡◌, ◌⊎◌, ◌==◌, ℕ, Option, Some, None, List, map, string_bytes, if◌then◌else◌}
 use Rattle.clap.specs.Words.{Text}
@@ -45,11 +45,11 @@ abbrev pub AreFileBytes : Opening → Option Text → Stream → Option (List �
 AreFileBytes Opens None unread bytes = Unit {0}
 AreFileBytes Opens (Some name) unread bytes = AreBytesOf Opens (asked_file (Some name)) unread bytes
 
--- what a crawl is given by a plan: its options, its URLs, and a file of that kind, with those bytes
+-- the input of a plan's crawl: its options, its URLs, and a file of that kind, with those bytes
 abbrev pub given_by : CrawlPlan → UrlFile → Option (List ℕ) → CrawlGiven
 given_by plan kind bytes = record { options = plan.options; file = kind; words = map string_bytes plan.urls.items; bytes = bytes }
 
--- a crawl is carried out, and the status is as it ended
+-- a crawl runs, and the status is that of its end
 pub record RunsCrawl {K : Type 0} (crawled : K → K → List Job → List JobResult → Type 0) (finished : K → List JobResult → Type 0) (given : CrawlGiven) (old new : Stream) (status : ℕ) : Type 0 where
   pub result : Crawled
   pub crawls : Crawls crawled finished given old new result

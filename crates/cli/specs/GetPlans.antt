@@ -1,4 +1,4 @@
--- The crawl that the words after `get` ask for.
+-- Plans of crawls from the words after `get`.
 use Rattle.std.specs.Prelude.{◌≡◌, ℕ, Bool, false, map, List, string_bytes, Option, None, Some, if◌then◌else◌, Result, Ok, Err}
 use Rattle.std.specs.List.{All, Any}
 use Rattle.std.specs.Option.{option_map}
@@ -20,7 +20,7 @@ use Rattle.cli.specs.declared.get.plan.GetRefusal.TheVariants.{Memory, Wrong}
 abbrev pub method_said : Bool → Method
 method_said head = if head then Head else Get
 
--- a crawl fetches by the numbers and flags that the words say
+-- the options have the numbers and flags of the words
 pub record AreOptionsOf (said : GetSaid) (options : CrawlOptions) : Type 0 where
   pub method : options.method ≡ method_said said.head
   pub age_said : max_age_said said.max_age ≡ Some options.max_age
@@ -31,8 +31,8 @@ pub record AreOptionsOf (said : GetSaid) (options : CrawlOptions) : Type 0 where
   pub life_said : max_life_said said.crawl.max_life ≡ Some options.max_life
   pub flags : options.flags ≡ flags_said said.crawl
 
--- a crawl by these, of the URLs and the file that the words say, with the addresses that they give for hosts; there is a
--- URL or a file, and each URL is good if bad ones are not skipped
+-- the plan has the options, URLs, file and addresses of the words; there is a URL or a file, and each URL is good if bad
+-- ones are not skipped
 pub record IsPlanOf (said : GetSaid) (plan : CrawlPlan) : Type 0 where
   pub options : AreOptionsOf said plan.options
   pub urls_said : map string_bytes plan.urls.items ≡ said.urls
@@ -41,32 +41,32 @@ pub record IsPlanOf (said : GetSaid) (plan : CrawlPlan) : Type 0 where
   pub some : NamesNone said → ⊥
   pub good : said.crawl.skip_bad ≡ false → All IsGoodUrl said.urls
 
--- the file that a plan reads URLs from; none is standard input, or none
+-- the name of the file that a plan reads URLs from; none if there is no file, or if it is standard input
 abbrev pub plan_file : CrawlPlan → Option Text
 plan_file plan = asked_file (option_map string_bytes plan.file)
 
--- why there is no plan: the words are refused, or memory ran out
-abbrev pub IsWhy : GetSaid → GetRefusal → Type 0
-IsWhy said Memory = Unit {0}
-IsWhy said (Wrong text) = IsRefused said
+-- there is no plan since the words are refused, or memory ran out
+abbrev pub IsGetRefused : GetSaid → GetRefusal → Type 0
+IsGetRefused said Memory = Unit {0}
+IsGetRefused said (Wrong text) = IsRefused said
 
--- a number is what the words say, or they say none
+-- the number is that of the words; without one the words are refused, or memory ran out
 abbrev pub SaysNumber : Option ℕ → Result ℕ GetRefusal → Type 0
 SaysNumber said (Ok number) = said ≡ Some number
 SaysNumber said (Err Memory) = Unit {0}
 SaysNumber said (Err (Wrong text)) = said ≡ None
 
--- a URL that is refused is bad, if memory did not run out
-abbrev pub IsWhyOfUrl : Text → GetRefusal → Type 0
-IsWhyOfUrl url Memory = Unit {0}
-IsWhyOfUrl url (Wrong text) = IsBadUrl url
+-- a URL is refused: it is bad, or memory ran out
+abbrev pub IsUrlRefused : Text → GetRefusal → Type 0
+IsUrlRefused url Memory = Unit {0}
+IsUrlRefused url (Wrong text) = IsBadUrl url
 
--- the same of one among several
-abbrev pub IsWhyOfUrls : List Text → GetRefusal → Type 0
-IsWhyOfUrls urls Memory = Unit {0}
-IsWhyOfUrls urls (Wrong text) = Any IsBadUrl urls
+-- one of several URLs is refused: it is bad, or memory ran out
+abbrev pub AreUrlsRefused : List Text → GetRefusal → Type 0
+AreUrlsRefused urls Memory = Unit {0}
+AreUrlsRefused urls (Wrong text) = Any IsBadUrl urls
 
--- if memory did not run out, a value of `--resolve` gives no address
-abbrev pub IsWhyOfHosts : List Text → GetRefusal → Type 0
-IsWhyOfHosts given Memory = Unit {0}
-IsWhyOfHosts given (Wrong text) = Any IsNoResolve given
+-- the values of `--resolve` are refused: one gives no address, or memory ran out
+abbrev pub AreHostsRefused : List Text → GetRefusal → Type 0
+AreHostsRefused given Memory = Unit {0}
+AreHostsRefused given (Wrong text) = Any IsNoResolve given

@@ -1,4 +1,4 @@
-//! Fetches URLs, and writes how each transfer ended.
+//! Fetches URLs, and writes a line for each.
 
 ghost use Rattle.std.specs.Prelude.{◌≡◌, None, option_map, string_bytes};
 ghost use Rattle.client.specs.Crawling.{crawl_given};
@@ -34,7 +34,7 @@ const FAILED: u8 = 4;
 /// Carries out a plan: fetches the URLs among the words, and then those of its file, which is one
 /// of `files`, or `input`, and writes a line on `output` as each transfer ends. Returns the status:
 /// 0 if each URL has a good response and its line, 2 if a line of the file is a bad URL, else 4.
-/// Writes what goes wrong on `errors`.
+/// Reports faults on `errors`.
 pub fn run_get<N: Network, F: ScriptFiles, R: Source, W: Sink, E: Write>(
     alloc: Global,
     plan: CrawlPlan,
@@ -97,8 +97,8 @@ fn kind_of<F: ScriptFiles>(files: &F, file: &Option<String>) -> UrlFile
     }
 }
 
-// Carries out a crawl whose file, if it has one, is `input`, and returns the status. Writes what
-// goes wrong on `errors`. `name` is the file's name, unless it is standard input.
+// Carries out a crawl whose file, if it has one, is `input`, and returns the status. Reports faults
+// on `errors`. `name` is the file's name, unless it is standard input.
 fn run_crawl<N: Network, R: Source, W: Sink, E: Write>(
     crawl: Crawl,
     name: Option<&str>,
@@ -122,7 +122,7 @@ fn run_crawl<N: Network, R: Source, W: Sink, E: Write>(
     status_of(crawled)
 }
 
-// Returns the status of a crawl that ended so.
+// Returns the status of a crawl.
 fn status_of(crawled: Crawled) -> u8
     ensures { result ≡ crawl_status crawled }
 {
@@ -133,12 +133,12 @@ fn status_of(crawled: Crawled) -> u8
     }
 }
 
-// Writes what went wrong in a crawl.
+// Reports the fault of a crawl, or its failed URLs.
 fn write_end<E: Write>(errors: &mut E, crawled: Crawled) {
-    let (failed, told) = (crawled.tally.failed, crawled.tally.told);
+    let (failed, lines) = (crawled.tally.failed, crawled.tally.lines);
     let _ = match crawled.fault {
         None if failed == 0 => Ok(()),
-        None => writeln!(errors, "run: {failed} of {told} failed"),
+        None => writeln!(errors, "run: {failed} of {lines} failed"),
         Some(CrawlFault::BadUrl(line)) => writeln!(errors, "line {line}: bad URL"),
         Some(fault) => writeln!(errors, "run: {fault}"),
     };

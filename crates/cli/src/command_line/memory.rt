@@ -1,7 +1,7 @@
 //! What the words are read in: `clap`, and memory for texts.
 
 ghost use Rattle.std.specs.Prelude.{◌≡◌, ◌≤◌, IfOk, IfErr, map, string_bytes};
-ghost use Rattle.cli.specs.GetPlans.{IsPlanOf, IsWhy};
+ghost use Rattle.cli.specs.GetPlans.{IsPlanOf, IsGetRefused};
 ghost use Rattle.cli.specs.GetWords.{get_said_by};
 ghost use Rattle.cli.specs.LoadPlan.{IsLoadPlanOf, IsLoadRefused};
 ghost use Rattle.cli.specs.LoadWords.{IsWhyNot, load_said_by};
@@ -41,7 +41,7 @@ pub trait ArgsAlloc {
     /// What the words after `get` ask for. A refusal for want of memory counts as one.
     fn plan(&mut self, words: GetWords) -> Result<CrawlPlan, GetRefusal>
         ensures plan { IfOk result (IsPlanOf (get_said_by words)) }
-        ensures refused { IfErr result (IsWhy (get_said_by words)) }
+        ensures refused { IfErr result (IsGetRefused (get_said_by words)) }
         ensures wants { IfErr result (λ refusal. refusal ≡ GetRefusal.Memory
             → Rises (wants self.old) (wants self.new)) }
         ensures kept { wants self.old ≤ wants self.new };

@@ -3,7 +3,7 @@
 ghost use Rattle.std.specs.Prelude.{◌≡◌, option_map, string_bytes};
 ghost use Rattle.std.specs.Prelude.{IfOk, IfErr};
 ghost use Rattle.cli.specs.CrawlWords.{crawl_said_by, flags_said, max_life_said};
-ghost use Rattle.cli.specs.GetPlans.{AreOptionsOf, IsPlanOf, IsWhy, SaysNumber, method_said};
+ghost use Rattle.cli.specs.GetPlans.{AreOptionsOf, IsPlanOf, IsGetRefused, SaysNumber, method_said};
 ghost use Rattle.cli.specs.GetWords.{get_said_by, max_age_said, timeout_said};
 ghost use Rattle.cli.specs.LoadWords.{number_said};
 
@@ -86,7 +86,7 @@ impl From<AllocError> for GetRefusal {
 /// target. `Memory` if memory ran out.
 pub fn plan_of(alloc: Global, words: GetWords) -> Result<CrawlPlan, GetRefusal>
     ensures plan { IfOk result (IsPlanOf (get_said_by words)) }
-    ensures refused { IfErr result (IsWhy (get_said_by words)) }
+    ensures refused { IfErr result (IsGetRefused (get_said_by words)) }
 {
     if words.urls.is_empty() && words.crawl.file.is_none() {
         return Err(wrong(String::from_str(alloc, NO_URL)));
@@ -108,7 +108,7 @@ pub fn plan_of(alloc: Global, words: GetWords) -> Result<CrawlPlan, GetRefusal>
 /// Returns the options that the words give.
 fn options_of(alloc: Global, words: &GetWords) -> Result<CrawlOptions, GetRefusal>
     ensures options { IfOk result (AreOptionsOf (get_said_by words.now)) }
-    ensures refused { IfErr result (IsWhy (get_said_by words.now)) }
+    ensures refused { IfErr result (IsGetRefused (get_said_by words.now)) }
 {
     let crawl = &words.crawl;
     let max_age = max_age_of(alloc, &words.max_age)?;

@@ -1,7 +1,7 @@
 //! Addresses that the words after `get` give for hosts.
 
 ghost use Rattle.std.specs.Prelude.{map, string_bytes, IfErr, IfOk};
-ghost use Rattle.cli.specs.GetPlans.{IsWhyOfHosts};
+ghost use Rattle.cli.specs.GetPlans.{AreHostsRefused};
 ghost use Rattle.cli.specs.Resolving.{AreResolved};
 
 use crate::command_line::resolving::{ResolveFault, resolved_by};
@@ -17,7 +17,7 @@ use std::alloc::Global;
 pub(crate) fn resolved_hosts(alloc: Global, given: &[String]) -> Result<Vec<Resolved>, GetRefusal>
     ensures hosts { IfOk result (λ hosts.
         AreResolved (map string_bytes given.now) hosts.items) }
-    ensures refused { IfErr result (IsWhyOfHosts (map string_bytes given.now)) }
+    ensures refused { IfErr result (AreHostsRefused (map string_bytes given.now)) }
 {
     match resolved_by(alloc, given) {
         Ok(hosts) => Ok(hosts),

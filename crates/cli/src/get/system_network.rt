@@ -31,8 +31,8 @@ pub struct SystemNetwork<'s, 'a: 's, H: Wait + RandomSource + AllocGlobal> {
 }
 
 impl<'s, 'a: 's, H: Wait + RandomSource + AllocGlobal> SystemNetwork<'s, 'a, H> {
-    /// Makes the network of a system, which looks up names by these look-ups, if threads serve them,
-    /// as `has_threads` says. `waits` is the same runtime.
+    /// Makes the network of a system. `has_threads` is true if threads serve `look_ups`; otherwise
+    /// the caller of the network looks up names. `waits` is the same runtime.
     pub fn new(
         system: &'a HostRuntime,
         waits: &'a H,

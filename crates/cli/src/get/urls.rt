@@ -2,7 +2,7 @@
 
 ghost use Rattle.std.specs.Prelude.{map, string_bytes, IfErr, OnOk};
 ghost use Rattle.std.specs.List.{All};
-ghost use Rattle.cli.specs.GetPlans.{IsWhyOfUrl, IsWhyOfUrls};
+ghost use Rattle.cli.specs.GetPlans.{IsUrlRefused, AreUrlsRefused};
 ghost use Rattle.cli.specs.GetWords.{IsGoodUrl};
 
 use crate::get::plan::{GetRefusal, wrong};
@@ -16,7 +16,7 @@ use std::alloc::Global;
 /// `Wrong` if a URL is bad, `Memory` if memory ran out.
 pub(crate) fn check_urls(alloc: Global, urls: &[String]) -> Result<(), GetRefusal>
     ensures good { OnOk result (All IsGoodUrl (map string_bytes urls.now)) }
-    ensures refused { IfErr result (IsWhyOfUrls (map string_bytes urls.now)) }
+    ensures refused { IfErr result (AreUrlsRefused (map string_bytes urls.now)) }
 {
     for url in urls {
         if let Err(refusal) = check_url(alloc, url.as_str()) {
@@ -33,7 +33,7 @@ pub(crate) fn check_urls(alloc: Global, urls: &[String]) -> Result<(), GetRefusa
 /// `Wrong` if it is bad, `Memory` if memory ran out.
 fn check_url(alloc: Global, url: &str) -> Result<(), GetRefusal>
     ensures good { OnOk result (IsGoodUrl url.now) }
-    ensures refused { IfErr result (IsWhyOfUrl url.now) }
+    ensures refused { IfErr result (IsUrlRefused url.now) }
 {
     match url_target(alloc, url) {
         // the contract of `url_target` says nothing of characters

@@ -1,5 +1,5 @@
 use Rattle.std.proofs.Common.{List, ℕ, subst}
-use Rattle.cli.specs.GetPlans.{IsWhyOfUrl}
+use Rattle.cli.specs.GetPlans.{IsUrlRefused}
 use Rattle.cli.specs.GetWords.{IsGoodUrl}
 use Rattle.cli.proofs.Plans.{good-more, good-whole, why-of-urls}
 use Rattle.cli.proofs.get.urls.check_urls.Goals as goal
@@ -7,7 +7,7 @@ use Rattle.cli.proofs.get.urls.check_urls.Goals as goal
 pub returns-in-Err-clause-refused : goal.returns-in-Err-clause-refused
 returns-in-Err-clause-refused c =
     why-of-urls c.args.urls.now c.loop-url.url-index c.url-item.result c.in-Err.refusal c.loop-url-test.true c.url-item.is
-    (subst (λ (url : List ℕ). IsWhyOfUrl url c.in-Err.refusal) c.as_str.ensures.value c.in-Err.ensures.refused)
+    (subst (λ (url : List ℕ). IsUrlRefused url c.in-Err.refusal) c.as_str.ensures.value c.in-Err.ensures.refused)
 
 pub loop-url-preserved : goal.loop-url-preserved
 loop-url-preserved c =
