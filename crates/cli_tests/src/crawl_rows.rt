@@ -120,7 +120,7 @@ static FAULTS: [(&str, &str, &str, &str, u8); 12] = [
         "run: 1 of 2 failed\n",
         4,
     ),
-    // what hangs does not hold up the others
+    // a stalled transfer does not delay the others
     (
         "get --skip-bad --parallel 2 http://127.0.0.1/late ftp://x http://127.0.0.1/a",
         "",
@@ -128,7 +128,7 @@ static FAULTS: [(&str, &str, &str, &str, u8); 12] = [
         "run: 1 of 3 failed\n",
         4,
     ),
-    // unless one transfer is in flight at a time: lines stand in the order of the URLs
+    // with one transfer in flight at a time, lines are in the order of the URLs
     (
         "get --skip-bad http://127.0.0.1/late ftp://x http://127.0.0.1/a",
         "",

@@ -1,4 +1,4 @@
-//! A crawler without a network: how a transfer ends stands in its path.
+//! A crawler without a network: the path of a URL gives the result of its transfer.
 
 ghost use Rattle.std.specs.Prelude.{⊤, true};
 ghost use Rattle.client.specs.Results.{TakesAll};
@@ -83,7 +83,7 @@ impl FakeCrawler {
         }
     }
 
-    // Carries out the job at that place, if there is one, and the crawl goes on.
+    // Runs the job at that place, if there is one, and the crawl continues.
     #[tactic(auto, using(crate::proofs::Takes::takes_none, crate::proofs::Takes::takes_one))]
     fn fetch<R: Results, S: Signals>(
         &mut self,
@@ -144,7 +144,7 @@ impl Places for FakeCrawler {
 }
 
 impl Crawler for FakeCrawler {
-    ghost stands = { λ crawler. ⊤ };
+    ghost can_go_on = { λ crawler. ⊤ };
 
     ghost dials = { λ crawler place addresses. ⊤ };
 

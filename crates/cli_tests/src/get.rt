@@ -1,9 +1,14 @@
 //! What `get` writes, and which of its words are refused.
 
 use crate::checks::check_eq;
+use crate::networks::FakeNetwork;
 use crate::running::{ROW, Row, Text, check, check_stopped, check_words};
+use crate::streams::Failing;
 use cli::Words;
-use client::NetworkFault;
+use client::{Crawl, CrawlFault, CrawlFlags, CrawlOptions, Crawled, NetworkFault, Tally, UrlFile};
+use persistence::Method;
+use script_run::FailureCounted;
+use script_text::FaultKind;
 use std::alloc::{AllocError, Global};
 use std::sync::atomic::Ordering;
 
@@ -204,19 +209,19 @@ static NAMES: [(&str, &str, &str, u32); 7] = [
 
 #[test]
 fn names_are_looked_up_once(rt: HostRuntime) {
-    for asked in &NAMES {
-        let (words, lines, told, lookups) = *asked;
+    for case in &NAMES {
+        let (words, lines, errors, lookups) = *case;
         let row = Row {
             name: words,
             words,
             output: Text::Whole(lines),
-            errors: Text::Whole(told),
-            status: if told.is_empty() { 0 } else { 4 },
+            errors: Text::Whole(errors),
+            status: if errors.is_empty() { 0 } else { 4 },
             ..ROW
         };
         let (network, _) = check(&rt, &row);
-        let asked = network.names.lookups.load(Ordering::SeqCst);
-        assert_eq!(rt; asked, lookups, "{words}");
+        let done = network.names.lookups.load(Ordering::SeqCst);
+        assert_eq!(rt; done, lookups, "{words}");
     }
 }
 
@@ -274,4 +279,50 @@ fn a_line_that_cannot_be_written(rt: HostRuntime) {
         ..ROW
     };
     check_stopped(&rt, &row, "200 1 new http://[::1]/\n200 2 reu", false);
+}
+
+/// Options of a crawl of one transfer in flight at a time.
+const ONE_AT_A_TIME: CrawlOptions = CrawlOptions {
+    method: Method::Get,
+    parallel: 1,
+    host_limit: 0,
+    total: 0,
+    max_age: 118,
+    max_life: 0,
+    timeout: 30,
+    flags: CrawlFlags {
+        fresh: false,
+        skip_bad: false,
+        fail: false,
+        json: false,
+    },
+};
+
+// The URLs before a failed read are fetched; a line that was read in part is not.
+#[test]
+fn a_read_that_fails_in_the_middle(rt: HostRuntime) {
+    let alloc = rt.alloc();
+    let network = FakeNetwork::new(alloc, None);
+    let crawl = Crawl {
+        alloc,
+        options: ONE_AT_A_TIME,
+        urls: Vec::new(alloc),
+        file: UrlFile::Regular,
+        resolved: Vec::new(alloc),
+    };
+    let mut input = FailureCounted::new(Failing {
+        bytes: b"http://127.0.0.1/f\nhttp://127.0.0.1/gg\nhttp://127.0.0.1/h",
+    });
+    let mut output = Vec::new(alloc);
+    let crawled = crawl.run(&network, &mut input, &mut output);
+    let expected = Crawled {
+        tally: Tally {
+            lines: 2,
+            failed: 0,
+        },
+        fault: Some(CrawlFault::Input(FaultKind::Read)),
+    };
+    check_eq(&rt, crawled, expected);
+    let lines = "200 2 new http://127.0.0.1/f\n200 3 reused http://127.0.0.1/gg\n";
+    check_eq(&rt, output.as_slice(), lines.as_bytes());
 }

@@ -52,7 +52,7 @@ const FACTS: Facts = Facts {
 pub struct FakeNetwork {
     fault: Option<NetworkFault>,
     pub names: FakeNames,
-    /// How often it was opened.
+    /// Number of times that it was opened.
     pub openings: AtomicU32,
     /// Number of hosts for which it has places.
     pub hosts: AtomicU32,
@@ -74,7 +74,7 @@ impl FakeNetwork {
         }
     }
 
-    /// How often it was opened, for how many hosts, and with which timeout.
+    /// Number of times that it was opened, number of hosts, and timeout in seconds.
     pub fn opened(&self) -> (u32, u32, u32) {
         (
             self.openings.load(Ordering::SeqCst),
@@ -84,11 +84,11 @@ impl FakeNetwork {
     }
 }
 
-/// Looks up each name as it is asked for.
+/// Looks up each name at once.
 #[derive(Drop)]
 pub struct FakeNames {
     alloc: Global,
-    /// Number of names that it was asked for.
+    /// Number of look-ups.
     pub lookups: AtomicU32,
     answers: RefCell<VecDeque<Answer>>,
 }

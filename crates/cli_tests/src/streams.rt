@@ -16,8 +16,8 @@ pub const REUSED: &str = "opened 0.1 for 1 at 0\nreturned 0.1 by 1 at 2\nleased 
 
 // Gives a few bytes and then fails.
 #[derive(Drop)]
-struct Failing {
-    bytes: &'static [u8],
+pub struct Failing {
+    pub bytes: &'static [u8],
 }
 
 impl Read for Failing {

@@ -37,7 +37,7 @@ capped : (n k most : ℕ) → min (min n most + k) most ≡ min (n + k) most
 capped n k most = omega arith
 
 abbrev tally_as : ℕ → ℕ → Tally
-tally_as told failed = record { told = told; failed = failed }
+tally_as lines failed = record { lines = lines; failed = failed }
 
 -- one more line is counted
 pub tally_more : (flags : CrawlFlags) (lines : List Written) (line : Written) (old new : Tally) → old ≡ tally_of flags lines → Counts (has_failed flags line) old new
@@ -45,12 +45,12 @@ pub tally_more : (flags : CrawlFlags) (lines : List Written) (line : Written) (o
 tally_more flags lines line old new is counts =
     let most = 2 ^ 64 - 1 in
     let one = cond (has_failed flags line) 1 0 in
-    let told : new.told ≡ min (length (lines ++ line ∷ [])) most =
-    counts.lines ∙ ap (λ (t : Tally). min (t.told + 1) most) is ∙ capped (length lines) 1 most ∙ ap (λ n. min n most) (sym (length-append lines (line ∷ []))) in
+    let counted : new.lines ≡ min (length (lines ++ line ∷ [])) most =
+    counts.lines ∙ ap (λ (t : Tally). min (t.lines + 1) most) is ∙ capped (length lines) 1 most ∙ ap (λ n. min n most) (sym (length-append lines (line ∷ []))) in
     let failed : new.failed ≡ min (count_by (has_failed flags) (lines ++ line ∷ [])) most =
     counts.failures ∙ ap (λ (t : Tally). min (t.failed + one) most) is ∙ capped (count_by (has_failed flags) lines) one most
     ∙ ap (λ n. min n most) (sym (sum_by_push (λ (l : Written). cond (has_failed flags l) 1 0) lines line)) in
-    ap (λ n. tally_as n new.failed) told ∙ ap (λ n. tally_as (min (length (lines ++ line ∷ [])) most) n) failed
+    ap (λ n. tally_as n new.failed) counted ∙ ap (λ n. tally_as (min (length (lines ++ line ∷ [])) most) n) failed
 
 -- what holds by some jobs and results holds by more of them
 module _ (options : CrawlOptions) (jobs more_jobs : List Job) (results more_results : List JobResult) (in_jobs : (job : Job) → Contains jobs job → Contains more_jobs job) (in_results : (result : JobResult) → Contains results result → Contains more_results result) where
@@ -61,8 +61,8 @@ module _ (options : CrawlOptions) (jobs more_jobs : List Job) (results more_resu
   pub lines_on : (lines : List Written) → All (IsOfResult options jobs results) lines → All (IsOfResult options more_jobs more_results) lines
   lines_on lines are = All-weaker (IsOfResult options jobs results) (IsOfResult options more_jobs more_results) (λ line. end_more line.url line.ended) lines are
 
-  pub flying_on : (all : List InFlight) → All (HasJob options jobs) all → All (HasJob options more_jobs) all
-  flying_on all are =
+  pub have_jobs_on : (all : List InFlight) → All (HasJob options jobs) all → All (HasJob options more_jobs) all
+  have_jobs_on all are =
       All-weaker (HasJob options jobs) (HasJob options more_jobs) (λ one has. record { job = has.job; among = in_jobs has.job has.among; its = has.its }) all are
 
 pub first_of : {X : Type 0} (x : X) (xs : List X) → Contains (x ∷ xs) x
@@ -91,7 +91,7 @@ module _ (options : CrawlOptions) (jobs : List Job) (given queued : List Text) (
       let left = remove flying w.place in
       let url = string_bytes w.one.url in
       let urls = urls_written a.lines in
-      let has : HasJob options jobs w.one = subst (HasJob options jobs) (sym w.there) (All-get_or (HasJob options jobs) flying w.place w.one w.below a.flying) in
+      let has : HasJob options jobs w.one = subst (HasJob options jobs) (sym w.there) (All-get_or (HasJob options jobs) flying w.place w.one w.below a.have_jobs) in
       let its : IsResultOf options jobs (result ∷ results) url result =
       record { came = first_of result results; job = has.job; among = has.among; want = has.its.want ∙ ap (want_of options) w.number; method = has.its.method; target = has.its.target } in
       let its_end : IsOfResult options jobs (result ∷ results) w.line =
@@ -102,19 +102,19 @@ module _ (options : CrawlOptions) (jobs : List Job) (given queued : List Text) (
       let each : IsPermutation given ((urls ++ url ∷ []) ++ (urls_in_flight left ++ queued)) =
       IsPermutation-pop_more given urls (urls_in_flight flying ++ queued) (urls_in_flight left ++ queued) url a.each urls_moved in
       let more = urls_more a.lines w.line url w.its_url in
-      let none = λ (p : options.parallel ≡ 1). w.left ∙ (only_one flying w.place w.one (a.few p) w.below w.there).1 in
+      let none = λ (p : options.parallel ≡ 1). w.left ∙ (only_one flying w.place w.one (a.at_most_one p) w.below w.there).1 in
       record {
         lines = a.lines ++ w.line ∷ [];
         are = lines_more a.lines w.line first old.stream new.stream new.fault (subst (AreWritten a.lines first old.stream) w.writes.whole a.are) w.writes.puts;
-        its = All-push (IsOfResult options jobs (result ∷ results)) a.lines w.line (lines_on options jobs jobs results (result ∷ results) (λ job is. is) (among_rest result results) a.lines a.its) its_end;
-        flying = subst (All (HasJob options jobs)) (sym w.left) (All-tail (HasJob options jobs) w.one left (All-permutation (HasJob options jobs) flying (w.one ∷ left) moved a.flying));
+        of_results = All-push (IsOfResult options jobs (result ∷ results)) a.lines w.line (lines_on options jobs jobs results (result ∷ results) (λ job is. is) (among_rest result results) a.lines a.of_results) its_end;
+        have_jobs = subst (All (HasJob options jobs)) (sym w.left) (All-tail (HasJob options jobs) w.one left (All-permutation (HasJob options jobs) flying (w.one ∷ left) moved a.have_jobs));
         each = subst (λ (us : List Text). IsPermutation given (us ++ (urls_in_flight new.in_flight ++ queued))) (sym more)
             (subst (λ (fs : List InFlight). IsPermutation given ((urls ++ url ∷ []) ++ (urls_in_flight fs ++ queued))) (sym w.left) each);
         order = λ p. (
-            let now : given ≡ urls ++ (url ∷ queued) = subst (λ (fs : List InFlight). given ≡ urls ++ (urls_in_flight fs ++ queued)) (only_one flying w.place w.one (a.few p) w.below w.there).0 (a.order p) in
+            let now : given ≡ urls ++ (url ∷ queued) = subst (λ (fs : List InFlight). given ≡ urls ++ (urls_in_flight fs ++ queued)) (only_one flying w.place w.one (a.at_most_one p) w.below w.there).0 (a.order p) in
             subst (λ (us : List Text). given ≡ us ++ (urls_in_flight new.in_flight ++ queued)) (sym more)
             (subst (λ (fs : List InFlight). given ≡ (urls ++ url ∷ []) ++ (urls_in_flight fs ++ queued)) (sym (none p)) (now ∙ sym (append_assoc urls (url ∷ []) queued))));
-        few = λ p. subst (λ (fs : List InFlight). length fs ≤ 1) (sym (none p)) (omega arith);
+        at_most_one = λ p. subst (λ (fs : List InFlight). length fs ≤ 1) (sym (none p)) (omega arith);
         tally = subst (λ (f : CrawlFlags). new.tally ≡ tally_of f (a.lines ++ w.line ∷ [])) (sym w.writes.flags) (tally_more old.flags a.lines w.line old.tally new.tally a.tally w.writes.counts);
       }
 
@@ -125,18 +125,18 @@ module _ (options : CrawlOptions) (jobs : List Job) (given queued : List Text) (
       subst (AreAccounted options jobs (result ∷ results) given queued first) (sym same) (record {
         lines = a.lines;
         are = a.are;
-        its = lines_on options jobs jobs results (result ∷ results) (λ job is. is) (among_rest result results) a.lines a.its;
-        flying = a.flying;
+        of_results = lines_on options jobs jobs results (result ∷ results) (λ job is. is) (among_rest result results) a.lines a.of_results;
+        have_jobs = a.have_jobs;
         each = a.each;
         order = a.order;
-        few = a.few;
+        at_most_one = a.at_most_one;
         tally = a.tally;
       })
   takes_one results result old new a (inr w) = line_written results result old new a w
 
   -- results are taken
-  pub takes_all : (results : List JobResult) (told : List JobResult) (old new : OutputShown) → AreAccounted options jobs results given queued first old → AllTaken TakesShown old new told
-      → AreAccounted options jobs (told ++ results) given queued first new
+  pub takes_all : (results : List JobResult) (came : List JobResult) (old new : OutputShown) → AreAccounted options jobs results given queued first old → AllTaken TakesShown old new came
+      → AreAccounted options jobs (came ++ results) given queued first new
   takes_all results [] old new a same = subst (AreAccounted options jobs results given queued first) (sym same) a
   takes_all results (result ∷ earlier) old new a taken =
       takes_one (earlier ++ results) result taken.0 new (takes_all results earlier old taken.0 a taken.1) taken.2

@@ -8,40 +8,40 @@ use Rattle.std.proofs.lemmas.List.Elements.{All-cons}
 use Rattle.std.proofs.lemmas.List.Splits.{slice_split-cons_no, slice_split_none}
 use Rattle.std.proofs.lemmas.List.Sums.{fails_before_first}
 use Rattle.std.proofs.lemmas.Str.{utf8_lossy-IsUtf8}
-use Rattle.std.specs.Io.KnownBytes.{Consumes, IsAtEnd}
+use Rattle.std.specs.Io.KnownBytes.{Consumes, IsAtEnd, Keeps}
 use Rattle.std.specs.List.{slice_split, onto_first, position_or_len}
 use Rattle.std.specs.Str.Lines.{strip_carriage_return}
 use Rattle.std.specs.Str.Lossy.{utf8_lossy}
 use Rattle.script_text.proofs.Splits.{parts_after, slice_split-parts}
 use Rattle.client.specs.Lines.{Text}
-use Rattle.client.specs.FileLines.{AreFirst, GivesUrls, HasNoEnd, HasNoLine, IsNextLine, KnowsEnd, LinesShown, ReadsFile, TakesLine, ends_line, is_passed, line_front, nothing_read, urls_in, urls_left, urls_of_front, urls_on, urls_returned}
+use Rattle.client.specs.FileLines.{AreFirst, GivesUrls, HasNoEnd, HasNoLine, IsNextLine, KnowsEnd, LinesShown, ReadsFile, TakesLine, ends_line, is_skipped, line_front, nothing_read, urls_in, urls_left, urls_of_front, urls_on, urls_returned}
 use Rattle.client.specs.declared.crawl.lines.Line.{Line}
-use Rattle.client.specs.declared.crawl.lines.Line.TheVariants.{Url, Bad, Passed, Unread, Over}
+use Rattle.client.specs.declared.crawl.lines.Line.TheVariants.{Url, Bad, Skipped, Unread, Over}
 
 -- ---- one line
 
-passed_front : (n : ℕ) (line : List ℕ) → 0 < n → is_passed (take n line) ≡ is_passed line
-passed_front zero line some = absurd (omega arith)
-passed_front (suc n) [] some = refl
-passed_front (suc n) (byte ∷ bytes) some = refl
+skipped_front : (n : ℕ) (line : List ℕ) → 0 < n → is_skipped (take n line) ≡ is_skipped line
+skipped_front zero line some = absurd (omega arith)
+skipped_front (suc n) [] some = refl
+skipped_front (suc n) (byte ∷ bytes) some = refl
 
-of_passed : (front : List ℕ) → is_passed front ≡ true → urls_of_front front ≡ []
-of_passed front passed = rw passed refl
+of_skipped : (front : List ℕ) → is_skipped front ≡ true → urls_of_front front ≡ []
+of_skipped front passed = rw passed refl
 
-of_url : (front : List ℕ) → is_passed front ≡ false → urls_of_front front ≡ utf8_lossy front ∷ []
+of_url : (front : List ℕ) → is_skipped front ≡ false → urls_of_front front ≡ utf8_lossy front ∷ []
 of_url front passed = rw passed refl
 
-pub on_passed : (line stripped : List ℕ) → stripped ≡ strip_carriage_return line → is_passed stripped ≡ true → [] ≡ urls_on line
+pub on_skipped : (line stripped : List ℕ) → stripped ≡ strip_carriage_return line → is_skipped stripped ≡ true → [] ≡ urls_on line
 unfolding line_front
-on_passed line stripped is passed = sym (of_passed (take 2048 (strip_carriage_return line)) (passed_front 2048 (strip_carriage_return line) (omega arith) ∙ ap is_passed (sym is) ∙ passed))
+on_skipped line stripped is passed = sym (of_skipped (take 2048 (strip_carriage_return line)) (skipped_front 2048 (strip_carriage_return line) (omega arith) ∙ ap is_skipped (sym is) ∙ passed))
 
-pub on_url : (line stripped url : List ℕ) → stripped ≡ strip_carriage_return line → is_passed stripped ≡ false → url ≡ utf8_lossy (take 2048 stripped) → url ∷ [] ≡ urls_on line
+pub on_url : (line stripped url : List ℕ) → stripped ≡ strip_carriage_return line → is_skipped stripped ≡ false → url ≡ utf8_lossy (take 2048 stripped) → url ∷ [] ≡ urls_on line
 unfolding line_front
 on_url line stripped url is passed its =
     ap (λ (u : Text). u ∷ []) (its ∙ ap (λ (l : List ℕ). utf8_lossy (take 2048 l)) is)
-    ∙ sym (of_url (take 2048 (strip_carriage_return line)) (passed_front 2048 (strip_carriage_return line) (omega arith) ∙ ap is_passed (sym is) ∙ passed))
+    ∙ sym (of_url (take 2048 (strip_carriage_return line)) (skipped_front 2048 (strip_carriage_return line) (omega arith) ∙ ap is_skipped (sym is) ∙ passed))
 
-pub on_utf8 : (line stripped url : List ℕ) → stripped ≡ strip_carriage_return line → is_passed stripped ≡ false → IsUtf8 stripped → length stripped ≤ 2048 → url ≡ stripped → url ∷ [] ≡ urls_on line
+pub on_utf8 : (line stripped url : List ℕ) → stripped ≡ strip_carriage_return line → is_skipped stripped ≡ false → IsUtf8 stripped → length stripped ≤ 2048 → url ≡ stripped → url ∷ [] ≡ urls_on line
 on_utf8 line stripped url is passed utf8 few its =
     on_url line stripped url is passed (its ∙ sym (utf8_lossy-IsUtf8 stripped utf8) ∙ ap utf8_lossy (sym (take_all 2048 stripped few)))
 
@@ -113,7 +113,7 @@ same_urls a b is = cc
 next_of : (line : Line) (urls : List Text) (old new : LinesShown) → urls_returned line ≡ Some urls → TakesLine urls old new → IsNextLine line old new
 next_of (Url url number) urls old new is takes = subst (λ (us : List Text). TakesLine us old new) (same_urls _ urls is) takes
 next_of (Bad url number) urls old new is takes = subst (λ (us : List Text). TakesLine us old new) (same_urls _ urls is) takes
-next_of Passed urls old new is takes = subst (λ (us : List Text). TakesLine us old new) (same_urls _ urls is) takes
+next_of Skipped urls old new is takes = subst (λ (us : List Text). TakesLine us old new) (same_urls _ urls is) takes
 next_of Unread urls old new is takes = absurd (cc)
 next_of Over urls old new is takes = absurd (cc)
 
@@ -180,7 +180,7 @@ in_cut_long bytes rest none long =
     in_onto (take 2050 bytes) rest first others (none_taken 2050 bytes none) parts ∙ ap (λ (us : List Text). us ++ flat_map urls_on others) (same_on bytes first long)
     ∙ sym (in_onto bytes rest first others none parts)
 
--- the front of a line that is too long stands for all of it
+-- the front of a line that is too long has the same URL as the line
 in_cut : (bytes rest : List ℕ) → HasNoEnd bytes → urls_in (take 2050 bytes ++ rest) ≡ urls_in (bytes ++ rest)
 in_cut bytes rest none =
     let case : (2050 ≤ length bytes) ⊎ (length bytes ≤ 2050) = grind arith in
@@ -202,11 +202,17 @@ pub reads_on : (old new : LinesShown) (before after : Option (List ℕ)) (read :
     → (new.is_at_end ≡ true → IsAtEnd after) → ReadsFile [] old new before after
 reads_on old new before after read none are reads ended = record { unread = same_left old new before after read none are reads; ended = ended }
 
--- what a read leaves pending
+-- a failed read consumes nothing
+pub keeps_consumes : (old new : Option (List ℕ)) → Keeps old new → Consumes old new []
+keeps_consumes None new keeps = tt
+keeps_consumes (Some xs) None keeps = keeps
+keeps_consumes (Some xs) (Some ys) keeps = sym keeps
+
+-- the bytes that are pending after a read
 pub pending_on : (from : ℕ) (now was cut read : List ℕ) → from ≡ 0 → now ≡ was ++ read → was ≡ cut → drop from now ≡ cut ++ read
 pending_on from now was cut read first is left = ap (λ (n : ℕ). drop n now) first ∙ is ∙ ap (λ (l : List ℕ). l ++ read) left
 
--- what a read has put in front of its memory
+-- the front of a buffer after a read
 pub front_read : (n m : ℕ) (buf others : List ℕ) → n ≤ m → n ≤ length buf → take n (take m (buf ++ others)) ≡ take n buf
 front_read n m buf others less within = take-take n m (buf ++ others) less ∙ take-append-le n buf others within
 

@@ -1,6 +1,6 @@
--- How a crawl ends.
+-- The end of a crawl.
 use Rattle.std.proofs.Common.{◌≡◌, ℕ, List, [], ◌∷◌, ◌++◌, length, refl, ap, sym, ◌∙◌, subst, arith, rules, append_assoc, inl, inr}
-use Rattle.std.specs.Prelude.{true, false, is_some, Option, Some, None, Result, Ok, Err, IsOk, OnOk}
+use Rattle.std.specs.Prelude.{Bool, true, false, not, is_some, Option, Some, None, Result, Ok, Err, IsOk, IfErr, OnOk}
 use Rattle.std.specs.List.{AllZip}
 use Rattle.std.specs.List.Sorted.{IsPermutation}
 use Rattle.std.proofs.KnownBytes.{Appends-nil}
@@ -11,7 +11,8 @@ use Rattle.exchange.specs.declared.job.Job.{Job}
 use Rattle.run_loop.specs.Taking.{AllTaken, JobResult}
 use Rattle.script_run.specs.Streams.{Stream}
 use Rattle.script_text.specs.declared.fault.FaultKind.{FaultKind}
-use Rattle.client.specs.Crawling.{CrawlGiven, Crawls, HasFetched, IfEnd, IsAt, IsOver, IsSomewhere, jobs_begun, line_fault}
+use Rattle.client.specs.Crawling.{CrawlGiven, Crawls, HasFetched, IfEnd, IsAt, IsOver, IsSomewhere, jobs_begun}
+use Rattle.client.specs.Faults.{CanEnd, IsStepFault, line_fault}
 use Rattle.client.specs.FileLines.{urls_in}
 use Rattle.client.specs.Lines.{Text}
 use Rattle.client.specs.Reading.{QueueShown}
@@ -19,6 +20,8 @@ use Rattle.client.specs.Steps.{HasCrawled, IsJobOf, IsMade, IsOfResult}
 use Rattle.client.specs.Written.{AreWritten, OutputShown, TakesShown, TookAll, tally_of, urls_in_flight, urls_written}
 use Rattle.client.specs.declared.crawl.Crawled.{Crawled}
 use Rattle.client.specs.declared.crawl.Step.{Step}
+use Rattle.client.specs.declared.crawl.Step.TheVariants as steps
+use Rattle.client.specs.declared.crawl.fault.CrawlFault.{CrawlFault}
 use Rattle.client.specs.declared.crawl.fault.CrawlFault.TheVariants as faults
 use Rattle.client.specs.declared.crawl.fault.NetworkFault.{NetworkFault}
 use Rattle.client.specs.declared.crawl.in_flight.InFlight.{InFlight}
@@ -34,12 +37,12 @@ module _ {K : Type 0} (crawled : K → K → List Job → List JobResult → Typ
   none_called = record { calls = []; made = All-nil (IsMade crawled); jobs_are = refl; results_are = refl }
 
   -- one more call
-  pub one_called : (before after : K) (more jobs : List Job) (told results : List JobResult) → HasCrawled crawled jobs results → crawled before after more told → HasCrawled crawled (more ++ jobs) (told ++ results)
-  one_called before after more jobs told results ran is = record {
-    calls = record { before = before; after = after; jobs = more; results = told } ∷ ran.calls;
-    made = All-cons (IsMade crawled) (record { before = before; after = after; jobs = more; results = told }) ran.calls is ran.made;
+  pub one_called : (before after : K) (more jobs : List Job) (came results : List JobResult) → HasCrawled crawled jobs results → crawled before after more came → HasCrawled crawled (more ++ jobs) (came ++ results)
+  one_called before after more jobs came results ran is = record {
+    calls = record { before = before; after = after; jobs = more; results = came } ∷ ran.calls;
+    made = All-cons (IsMade crawled) (record { before = before; after = after; jobs = more; results = came }) ran.calls is ran.made;
     jobs_are = ap (λ l. more ++ l) ran.jobs_are;
-    results_are = ap (λ l. told ++ l) ran.results_are;
+    results_are = ap (λ l. came ++ l) ran.results_are;
   }
 
 -- a crawl is at that queue, after some calls
@@ -60,14 +63,34 @@ fetches_on crawled crawl first before after more jobs results source queue old n
 }
 
 -- up to there all was fetched
-pub fetched_here : {K : Type 0} (crawled : K → K → List Job → List JobResult → Type 0) (crawl : CrawlGiven) (first : Stream) (source : Option (List ℕ)) (queue : QueueShown) (now : OutputShown) (is_whole : Type 0) → IsFetching crawled crawl first source queue now → (is_whole → now.fault ≡ None → IsOver queue now.in_flight)
-    → HasFetched crawled crawl first now is_whole
-fetched_here crawled crawl first source queue now is_whole f whole = record { jobs = f.jobs; results = f.results; ran = f.ran; source = source; queue = queue; at = f.at; whole = whole }
+pub fetched_here : {K : Type 0} (crawled : K → K → List Job → List JobResult → Type 0) (crawl : CrawlGiven) (first : Stream) (source : Option (List ℕ)) (queue : QueueShown) (now : OutputShown) (result : Result (Unit {0}) CrawlFault) → IsFetching crawled crawl first source queue now → (IsOk result → now.fault ≡ None → IsOver queue now.in_flight)
+    → IfErr result (CanEnd crawl.options) → HasFetched crawled crawl first now result
+fetched_here crawled crawl first source queue now result f whole ended = record { jobs = f.jobs; results = f.results; ran = f.ran; source = source; queue = queue; at = f.at; whole = whole; ended = ended }
 
--- up to there some was fetched, as it failed
-pub stopped_here : {K : Type 0} (crawled : K → K → List Job → List JobResult → Type 0) (crawl : CrawlGiven) (first : Stream) (jobs : List Job) (results : List JobResult) (now : OutputShown) → HasCrawled crawled jobs results → IsSomewhere crawl jobs results first now
-    → HasFetched crawled crawl first now (false ≡ true)
-stopped_here crawled crawl first jobs results now ran at = record { jobs = jobs; results = results; ran = ran; source = at.0; queue = at.1; at = at.2; whole = λ is none. absurd (search (rules, is)) }
+-- a fault of a step can end a crawl, and is of no line
+step_can_end : (options : CrawlOptions) (fault : CrawlFault) → IsStepFault fault → CanEnd options fault
+step_can_end options (faults.Input kind) is = refl
+step_can_end options (faults.Output kind) is = absurd is
+step_can_end options (faults.Network fault) is = refl
+step_can_end options (faults.BadUrl number) is = absurd is
+
+pub of_no_line : (fault : CrawlFault) → IsStepFault fault → line_fault (Some fault) ≡ None
+of_no_line (faults.Input kind) is = refl
+of_no_line (faults.Output kind) is = absurd is
+of_no_line (faults.Network fault) is = refl
+of_no_line (faults.BadUrl number) is = absurd is
+
+pub end_of_no_line : (options : CrawlOptions) (result : Result (Unit {0}) CrawlFault) → IfErr result (CanEnd options) → IfErr result (λ fault. line_fault (Some fault) ≡ None)
+end_of_no_line options (Ok done) is = tt
+end_of_no_line options (Err (faults.Input kind)) is = refl
+end_of_no_line options (Err (faults.Output kind)) is = absurd (search (rules, is))
+end_of_no_line options (Err (faults.Network fault)) is = refl
+end_of_no_line options (Err (faults.BadUrl number)) is = refl
+
+-- up to there some was fetched, as a step failed
+pub stopped_here : {K : Type 0} (crawled : K → K → List Job → List JobResult → Type 0) (crawl : CrawlGiven) (first : Stream) (jobs : List Job) (results : List JobResult) (now : OutputShown) (fault : CrawlFault) → HasCrawled crawled jobs results → IsSomewhere crawl jobs results first now → IsStepFault fault
+    → HasFetched crawled crawl first now (Err fault)
+stopped_here crawled crawl first jobs results now fault ran at is = record { jobs = jobs; results = results; ran = ran; source = at.0; queue = at.1; at = at.2; whole = λ ok none. absurd (search (rules, ok)); ended = step_can_end crawl.options fault is }
 
 -- what holds of a good end
 pub at_ok : {A E : Type 0} (r : Result A E) (P : Type 0) → OnOk r P → IsOk r → P
@@ -81,9 +104,15 @@ step_from step other crawl jobs results first source queue now is at = subst (λ
 pub end_from : (step other : Step) (P : Type 0) → step ≡ other → IfEnd step P → IfEnd other P
 end_from step other P is holds = subst (λ (s : Step). IfEnd s P) is holds
 
--- jobs that are none
-pub no_more : (more jobs : List Job) (crawl : CrawlGiven) (results : List JobResult) (first : Stream) (source : Option (List ℕ)) (queue : QueueShown) (now : OutputShown) → more ≡ [] → IsAt crawl (more ++ jobs) results first source queue now → IsAt crawl jobs results first source queue now
-no_more more jobs crawl results first source queue now none at = subst (λ (l : List Job). IsAt crawl (l ++ jobs) results first source queue now) none at
+-- a step after which nothing is in flight
+pub end_idle : (step : Step) (P Q : Type 0) (queue : QueueShown) (in_flight : List InFlight) → in_flight ≡ [] → IfEnd step (P → IsOver queue []) → IfEnd step (P → Q → IsOver queue in_flight)
+end_idle (steps.Fetch jobs) P Q queue in_flight none over = tt
+end_idle steps.Read P Q queue in_flight none over = tt
+end_idle steps.End P Q queue in_flight none over = λ p q. subst (IsOver queue) (sym none) (over p)
+
+-- a step that begins the same jobs
+pub same_jobs : (more others jobs : List Job) (crawl : CrawlGiven) (results : List JobResult) (first : Stream) (source : Option (List ℕ)) (queue : QueueShown) (now : OutputShown) → more ≡ others → IsAt crawl (more ++ jobs) results first source queue now → IsAt crawl (others ++ jobs) results first source queue now
+same_jobs more others jobs crawl results first source queue now same at = subst (λ (l : List Job). IsAt crawl (l ++ jobs) results first source queue now) same at
 
 -- no transfers are in flight, so none began
 pub no_jobs : (options : CrawlOptions) (jobs : List Job) (old begun new : List InFlight) → new ≡ old ++ begun → AllZip (IsJobOf options) jobs begun → new ≡ [] → jobs ≡ []
@@ -96,16 +125,23 @@ no_jobs options (job ∷ jobs) old (one ∷ begun) new is zip none =
 pub fault_is : (fault : Option FaultKind) (P : Type 0) → is_some fault ≡ true → fault ≡ None → P
 fault_is fault P some none = absurd (search (rules, some, none))
 
+not_skipped : (skip : Bool) → not skip ≡ true → skip ≡ false
+not_skipped false is = refl
+not_skipped true is = absurd (search (rules, is))
+
 -- a fault is one
 some_not_none : (fault : NetworkFault) → Some (faults.Network fault) ≡ None → ⊥
 some_not_none fault is = search (rules, is)
 
+network_not_bad : (fault : NetworkFault) (number : ℕ) → Some (faults.Network fault) ≡ Some (faults.BadUrl number) → ⊥
+network_not_bad fault number is = search (rules, is)
+
 -- what is in flight or unread at the end has no line
 module _ {K : Type 0} (crawled : K → K → List Job → List JobResult → Type 0) (finished : K → List JobResult → Type 0) (crawl : CrawlGiven) (first : Stream) where
-  pub ends_so : (mid now : OutputShown) (is_whole : Type 0) (last : K) (told : List JobResult) (result : Crawled) → HasFetched crawled crawl first mid is_whole → finished last told → AllTaken TakesShown mid now told
-      → result.tally ≡ now.tally → line_fault result.fault ≡ now.fault → (result.fault ≡ None → is_whole) → Crawls crawled finished crawl first now.stream result
-  ends_so mid now is_whole last told result f finishes taken counted line done =
-      let at = at_takes crawl f.jobs f.results first f.source told f.queue mid now f.at taken in
+  pub ends_so : (mid now : OutputShown) (ended : Result (Unit {0}) CrawlFault) (last : K) (came : List JobResult) (result : Crawled) → HasFetched crawled crawl first mid ended → finished last came → AllTaken TakesShown mid now came
+      → result.tally ≡ now.tally → line_fault result.fault ≡ now.fault → (result.fault ≡ None → IsOk ended) → ((number : ℕ) → result.fault ≡ Some (faults.BadUrl number) → ended ≡ Err (faults.BadUrl number)) → Crawls crawled finished crawl first now.stream result
+  ends_so mid now ended last came result f finishes taken counted line done bad =
+      let at = at_takes crawl f.jobs f.results first f.source came f.queue mid now f.at taken in
       let a = at.accounted in
       let urls = urls_written a.lines in
       let rest = urls_in_flight now.in_flight ++ f.queue.queued in
@@ -115,7 +151,7 @@ module _ {K : Type 0} (crawled : K → K → List Job → List JobResult → Typ
         none = at.none;
         read = λ bytes known. first_in bytes crawl.bytes f.source f.queue.lines at.from_file _ known at.read (λ p. (
             let none : now.fault ≡ None = sym line ∙ ap line_fault p.0 in
-            (f.whole (done p.0) (whole_all told mid now taken none)).no_line (λ q. p.1 (sym at.file ∙ q))));
+            (f.whole (done p.0) (whole_all came mid now taken none)).no_line (λ q. p.1 (sym at.file ∙ q))));
         lines = a.lines;
         left = rest ++ f.queue.left;
         are = subst (AreWritten a.lines first now.stream) (sym line) a.are;
@@ -124,17 +160,18 @@ module _ {K : Type 0} (crawled : K → K → List Job → List JobResult → Typ
         order = λ p. sym at.are ∙ ap (λ l. l ++ f.queue.left) (a.order p) ∙ joined;
         whole = λ p. (
             let none : now.fault ≡ None = sym line ∙ ap line_fault p in
-            let over = f.whole (done p) (whole_all told mid now taken none) in
-            ap (λ (fs : List InFlight). (urls_in_flight fs ++ f.queue.queued) ++ f.queue.left) (none_all told mid now taken over.none_in_flight) ∙ ap (λ l. l ++ f.queue.left) over.none_queued ∙ over.none_left);
+            let over = f.whole (done p) (whole_all came mid now taken none) in
+            ap (λ (fs : List InFlight). (urls_in_flight fs ++ f.queue.queued) ++ f.queue.left) (none_all came mid now taken over.none_in_flight) ∙ ap (λ l. l ++ f.queue.left) over.none_queued ∙ over.none_left);
+        bad_url = λ number p. not_skipped crawl.options.flags.skip_bad (subst (λ (r : Result (Unit {0}) CrawlFault). IfErr r (CanEnd crawl.options)) (bad number p) f.ended);
         tally = counted ∙ a.tally ∙ ap (λ (flags : CrawlFlags). tally_of flags a.lines) at.flags;
         jobs = f.jobs;
-        results = told ++ f.results;
-        its = a.its;
-        ran = inr (record { before = f.results; ran = f.ran; last = last; told = told; finishes = finishes; results_are = refl });
+        results = came ++ f.results;
+        of_results = a.of_results;
+        ran = inr (record { before = f.results; ran = f.ran; crawler = last; rest = came; finishes = finishes; results_are = refl });
       }
 
   -- the network was not opened
-  pub never_opened : (result : Crawled) (fault : NetworkFault) → result.tally ≡ record { told = 0; failed = 0 } → result.fault ≡ Some (faults.Network fault) → Crawls crawled finished crawl first first result
+  pub never_opened : (result : Crawled) (fault : NetworkFault) → result.tally ≡ record { lines = 0; failed = 0 } → result.fault ≡ Some (faults.Network fault) → Crawls crawled finished crawl first first result
   never_opened result fault counted is = record {
     from_file = [];
     none = λ p. refl;
@@ -145,9 +182,10 @@ module _ {K : Type 0} (crawled : K → K → List Job → List JobResult → Typ
     each = IsPermutation-refl (crawl.words ++ []);
     order = λ p. refl;
     whole = λ p. absurd (some_not_none fault (sym is ∙ p));
+    bad_url = λ number p. absurd (network_not_bad fault number (sym is ∙ p));
     tally = counted;
     jobs = [];
     results = [];
-    its = All-nil (IsOfResult crawl.options [] []);
+    of_results = All-nil (IsOfResult crawl.options [] []);
     ran = inl (refl, refl);
   }

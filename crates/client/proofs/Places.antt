@@ -9,7 +9,7 @@ use Rattle.std.proofs.lemmas.Option.{slice_get_cases, unwrap_or-slice_get}
 use Rattle.site_table.specs.Giving.{Gives}
 use Rattle.site_table.specs.Hosts.{Hosts}
 use Rattle.site_table.proofs.GivingLemmas.{only_unused_change}
-use Rattle.client.specs.Hosts.{AreAwaited, GrowsOrStays, IsNoted, KeepsAwaited, is_awaited}
+use Rattle.client.specs.Hosts.{AreAwaited, GrowsOrStays, IsAwaited, KeepsAwaited, is_awaited}
 use Rattle.client.specs.declared.crawl.in_flight.InFlight.{InFlight}
 
 false_is : false ≡ true → ⊥
@@ -91,14 +91,14 @@ set_keeps (x ∷ awaited) (suc place) zero is = is
 set_keeps (x ∷ awaited) (suc place) (suc other) is = set_keeps awaited place other is
 
 -- one more transfer is noted
-pub noted_more : (awaited now : List Bool) (all : List InFlight) (i : ℕ) (one : InFlight) → i < length all → one ≡ get_or all i one → now ≡ set awaited one.place true → All (IsNoted awaited) (take i all) → All (IsNoted now) (take (i + 1) all)
-noted_more awaited now all i one below there is noted =
+pub awaited_after : (awaited now : List Bool) (all : List InFlight) (i : ℕ) (one : InFlight) → i < length all → one ≡ get_or all i one → now ≡ set awaited one.place true → All (IsAwaited awaited) (take i all) → All (IsAwaited now) (take (i + 1) all)
+awaited_after awaited now all i one below there is noted =
     let same : length now ≡ length awaited = ap length is ∙ length-set awaited one.place true in
-    let others : (other : InFlight) → IsNoted awaited other → IsNoted now other =
+    let others : (other : InFlight) → IsAwaited awaited other → IsAwaited now other =
     λ other was within. (
     let was_awaited = was (subst (λ n. other.place < n) same within) in
     unwrap_or-slice_get now other.place false ∙ ap (λ (l : List Bool). get_or l other.place false) is ∙ set_keeps awaited one.place other.place (sym (unwrap_or-slice_get awaited other.place false) ∙ was_awaited)) in
-    let its : IsNoted now one =
+    let its : IsAwaited now one =
     λ within. (
     unwrap_or-slice_get now one.place false ∙ ap (λ (l : List Bool). get_or l one.place false) is ∙ get_or-set_same awaited one.place true false (subst (λ n. one.place < n) same within)) in
-    All-more (IsNoted now) all i one below (All-weaker (IsNoted awaited) (IsNoted now) others (take i all) noted) (subst (IsNoted now) there its)
+    All-more (IsAwaited now) all i one below (All-weaker (IsAwaited awaited) (IsAwaited now) others (take i all) noted) (subst (IsAwaited now) there its)

@@ -19,7 +19,7 @@ use Rattle.client.specs.Written.{AreWritten, BeginsAll, OutputShown, TakesShown,
 use Rattle.client.specs.declared.crawl.in_flight.InFlight.{InFlight}
 use Rattle.client.specs.declared.options.CrawlFlags.{CrawlFlags}
 use Rattle.client.specs.declared.options.CrawlOptions.{CrawlOptions}
-use Rattle.client.proofs.Accounts.{among_rest, first_of, flying_on, lines_more, lines_on, takes_all, tally_more, urls_more}
+use Rattle.client.proofs.Accounts.{among_rest, first_of, have_jobs_on, lines_more, lines_on, takes_all, tally_more, urls_more}
 use Rattle.client.proofs.FileLines.{read_none, read_same, reads_after}
 use Rattle.client.proofs.Taken.{flags_all}
 
@@ -36,11 +36,11 @@ reads_more options jobs results given queued more first now a =
     record {
       lines = a.lines;
       are = a.are;
-      its = a.its;
-      flying = a.flying;
+      of_results = a.of_results;
+      have_jobs = a.have_jobs;
       each = subst (IsPermutation (given ++ more)) (regrouped urls flying queued more) (IsPermutation-append_left more given (urls ++ (flying ++ queued)) a.each);
       order = λ p. ap (λ l. l ++ more) (a.order p) ∙ regrouped urls flying queued more;
-      few = a.few;
+      at_most_one = a.at_most_one;
       tally = a.tally;
     }
 
@@ -95,8 +95,8 @@ module _ (crawl : CrawlGiven) (jobs : List Job) (results : List JobResult) (firs
         accounted = record {
           lines = a.lines ++ w.line ∷ [];
           are = lines_more a.lines w.line first before.stream after.stream after.fault (subst (AreWritten a.lines first before.stream) w.writes.whole a.are) w.writes.puts;
-          its = All-push (IsOfResult crawl.options jobs results) a.lines w.line a.its its_end;
-          flying = subst (All (HasJob crawl.options jobs)) (sym w.in_flight) a.flying;
+          of_results = All-push (IsOfResult crawl.options jobs results) a.lines w.line a.of_results its_end;
+          have_jobs = subst (All (HasJob crawl.options jobs)) (sym w.in_flight) a.have_jobs;
           each = subst (λ (us : List Text). IsPermutation at.given (us ++ (urls_in_flight after.in_flight ++ new.queued))) (sym more)
               (subst (λ (fs : List InFlight). IsPermutation at.given ((urls ++ url ∷ []) ++ (urls_in_flight fs ++ new.queued))) (sym w.in_flight) each);
           order = λ p. (
@@ -106,25 +106,25 @@ module _ (crawl : CrawlGiven) (jobs : List Job) (results : List JobResult) (firs
               subst (λ (fs : List InFlight). at.given ≡ urls ++ (urls_in_flight fs ++ (url ∷ new.queued))) none (subst (λ (q : List Text). at.given ≡ urls ++ (flying ++ q)) front (a.order p)) in
               subst (λ (us : List Text). at.given ≡ us ++ (urls_in_flight after.in_flight ++ new.queued)) (sym more)
               (subst (λ (fs : List InFlight). at.given ≡ (urls ++ url ∷ []) ++ (urls_in_flight fs ++ new.queued)) (sym (w.in_flight ∙ none)) (was ∙ sym (append_assoc urls (url ∷ []) new.queued))));
-          few = λ p. subst (λ (fs : List InFlight). length fs ≤ 1) (sym w.in_flight) (a.few p);
+          at_most_one = λ p. subst (λ (fs : List InFlight). length fs ≤ 1) (sym w.in_flight) (a.at_most_one p);
           tally = subst (λ (f : CrawlFlags). after.tally ≡ tally_of f (a.lines ++ w.line ∷ [])) (sym w.writes.flags)
               (tally_more before.flags a.lines w.line before.tally after.tally a.tally w.writes.counts);
         };
       }
 
   -- results are taken
-  pub at_takes : (told : List JobResult) (queue : QueueShown) (old new : OutputShown) → IsAt crawl jobs results first source queue old → AllTaken TakesShown old new told
-      → IsAt crawl jobs (told ++ results) first source queue new
-  at_takes told queue old new at taken = record {
+  pub at_takes : (came : List JobResult) (queue : QueueShown) (old new : OutputShown) → IsAt crawl jobs results first source queue old → AllTaken TakesShown old new came
+      → IsAt crawl jobs (came ++ results) first source queue new
+  at_takes came queue old new at taken = record {
     options = at.options;
     file = at.file;
-    flags = flags_all told old new taken ∙ at.flags;
+    flags = flags_all came old new taken ∙ at.flags;
     from_file = at.from_file;
     none = at.none;
     read = at.read;
     given = at.given;
     are = at.are;
-    accounted = takes_all crawl.options jobs at.given queue.queued first results told old new at.accounted taken;
+    accounted = takes_all crawl.options jobs at.given queue.queued first results came old new at.accounted taken;
   }
 
 -- transfers that begin have their jobs
@@ -134,15 +134,15 @@ have_jobs options [] (one ∷ begun) are = absurd are
 have_jobs options (job ∷ jobs) [] are = All-nil (HasJob options (job ∷ jobs))
 have_jobs options (job ∷ jobs) (one ∷ begun) are =
     All-cons (HasJob options (job ∷ jobs)) one begun (record { job = job; among = first_of job jobs; its = are.0 })
-    (flying_on options jobs (job ∷ jobs) [] [] (among_rest job jobs) (λ result is. is) begun (have_jobs options jobs begun are.1))
+    (have_jobs_on options jobs (job ∷ jobs) [] [] (among_rest job jobs) (λ result is. is) begun (have_jobs options jobs begun are.1))
 
 -- some of these, of one list or of the other
 module _ (options : CrawlOptions) (more jobs : List Job) where
   all_begun : (flying begun : List InFlight) → All (HasJob options jobs) flying → AllZip (IsJobOf options) more begun → All (HasJob options (more ++ jobs)) (flying ++ begun)
   all_begun flying begun are zip =
       All-append (HasJob options (more ++ jobs)) flying begun
-      (flying_on options jobs (more ++ jobs) [] [] (λ job is. Contains-append_right more jobs job is) (λ result is. is) flying are)
-      (flying_on options more (more ++ jobs) [] [] (λ job is. Contains-append_left more jobs job is) (λ result is. is) begun (have_jobs options more begun zip))
+      (have_jobs_on options jobs (more ++ jobs) [] [] (λ job is. Contains-append_right more jobs job is) (λ result is. is) flying are)
+      (have_jobs_on options more (more ++ jobs) [] [] (λ job is. Contains-append_left more jobs job is) (λ result is. is) begun (have_jobs options more begun zip))
 
 -- transfers begin
 pub at_begins : (crawl : CrawlGiven) (jobs more : List Job) (results : List JobResult) (first : Stream) (source : Option (List ℕ)) (begun : List InFlight) (old new : QueueShown) (before after : OutputShown)
@@ -160,15 +160,15 @@ at_begins crawl jobs more results first source begun old new before after at tak
     let accounted : AreAccounted crawl.options (more ++ jobs) results at.given new.queued first (record after { in_flight = before.in_flight ++ begun }) = record {
       lines = a.lines;
       are = subst (λ (stream : Stream). AreWritten a.lines first stream after.fault) (sym begins.stream) (subst (AreWritten a.lines first before.stream) (sym begins.fault) a.are);
-      its = lines_on crawl.options jobs (more ++ jobs) results results (λ job is. Contains-append_right more jobs job is) (λ result is. is) a.lines a.its;
-      flying = all_begun crawl.options more jobs before.in_flight begun a.flying zipped;
+      of_results = lines_on crawl.options jobs (more ++ jobs) results results (λ job is. Contains-append_right more jobs job is) (λ result is. is) a.lines a.of_results;
+      have_jobs = all_begun crawl.options more jobs before.in_flight begun a.have_jobs zipped;
       each = subst (λ (l : List Text). IsPermutation at.given (urls ++ l)) (sym all)
           (IsPermutation-trans at.given (urls ++ (flying ++ old.queued)) (urls ++ (flying ++ (started ++ new.queued))) a.each
           (IsPermutation-append_right urls (flying ++ old.queued) (flying ++ (started ++ new.queued)) (IsPermutation-append_right flying old.queued (started ++ new.queued) takes.each)));
       order = λ p. a.order p ∙ ap (λ l. urls ++ (flying ++ l)) (takes.order (ap (λ (o : CrawlOptions). o.parallel) at.options ∙ p)) ∙ ap (λ l. urls ++ l) (sym all);
-      few = λ p. (
+      at_most_one = λ p. (
           let below : length begun ≤ 1 - length before.in_flight = subst (λ n. length begun ≤ n - length before.in_flight) p free in
-          subst (λ n. n ≤ 1) (sym (length-append before.in_flight begun)) (omega (arith, below, a.few p)));
+          subst (λ n. n ≤ 1) (sym (length-append before.in_flight begun)) (omega (arith, below, a.at_most_one p)));
       tally = begins.tally ∙ a.tally ∙ ap (λ (f : CrawlFlags). tally_of f a.lines) (sym begins.flags);
     } in
     record {
@@ -184,7 +184,7 @@ at_begins crawl jobs more results first source begun old new before after at tak
     }
 
 -- nothing was read yet
-pub at_first : (crawl : CrawlGiven) (now : OutputShown) → now.flags ≡ crawl.options.flags → now.in_flight ≡ [] → now.fault ≡ None → now.tally ≡ record { told = 0; failed = 0 } → IsAt crawl [] [] now.stream crawl.bytes (queue_given crawl) now
+pub at_first : (crawl : CrawlGiven) (now : OutputShown) → now.flags ≡ crawl.options.flags → now.in_flight ≡ [] → now.fault ≡ None → now.tally ≡ record { lines = 0; failed = 0 } → IsAt crawl [] [] now.stream crawl.bytes (queue_given crawl) now
 at_first crawl now flags none whole counted = record {
   options = refl;
   file = refl;
@@ -197,11 +197,11 @@ at_first crawl now flags none whole counted = record {
   accounted = record {
     lines = [];
     are = subst (AreWritten [] now.stream now.stream) (sym whole) (Appends-nil now.stream.bytes, refl);
-    its = All-nil (IsOfResult crawl.options [] []);
-    flying = subst (All (HasJob crawl.options [])) (sym none) (All-nil (HasJob crawl.options []));
+    of_results = All-nil (IsOfResult crawl.options [] []);
+    have_jobs = subst (All (HasJob crawl.options [])) (sym none) (All-nil (HasJob crawl.options []));
     each = subst (λ (fs : List InFlight). IsPermutation [] (urls_in_flight fs ++ [])) (sym none) (IsPermutation-refl []);
     order = λ p. sym (ap (λ (fs : List InFlight). urls_in_flight fs ++ []) none);
-    few = λ p. subst (λ (fs : List InFlight). length fs ≤ 1) (sym none) (omega arith);
+    at_most_one = λ p. subst (λ (fs : List InFlight). length fs ≤ 1) (sym none) (omega arith);
     tally = counted;
   };
 }

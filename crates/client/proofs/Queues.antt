@@ -12,7 +12,7 @@ use Rattle.client.specs.Hosts.{AreAwaited, KeepsAwaited, is_awaited}
 use Rattle.client.specs.Lines.{Text}
 use Rattle.client.specs.FileLines.{LinesShown, TakesLine}
 use Rattle.client.specs.Reading.{AddsUrl, QueueShown, Reads, TakesOut, url_queued, urls_queued}
-use Rattle.client.specs.Sorting.{Begins, Sorts, Waits}
+use Rattle.client.specs.Windows.{Begins, BeginsOrWaits, Waits}
 use Rattle.client.specs.Steps.{IsJobOf}
 use Rattle.client.specs.Written.{url_in_flight, urls_in_flight}
 use Rattle.client.specs.declared.crawl.in_flight.InFlight.{InFlight}
@@ -127,33 +127,33 @@ zip_push R (a ∷ xs) (b ∷ ys) x y are is = (are.0, zip_push R xs ys x y are.1
 
 -- how far a window is: the URLs that were queued begin, wait or are queued, and those that begin have their jobs
 pub record IsWindow (options : CrawlOptions) (was : List Queued) (window : Window) (queued : List Queued) (free : ℕ) : Type 0 where
-  pub each : IsPermutation (urls_queued was) (urls_in_flight window.urls.items ++ (urls_queued window.waiting.items ++ urls_queued queued))
-  pub order : options.parallel ≡ 1 → urls_queued was ≡ urls_in_flight window.urls.items ++ (urls_queued window.waiting.items ++ urls_queued queued)
-  pub jobs : AllZip (IsJobOf options) window.jobs.items window.urls.items
-  pub few : length window.urls.items ≤ free
+  pub each : IsPermutation (urls_queued was) (urls_in_flight window.transfers.items ++ (urls_queued window.waiting.items ++ urls_queued queued))
+  pub order : options.parallel ≡ 1 → urls_queued was ≡ urls_in_flight window.transfers.items ++ (urls_queued window.waiting.items ++ urls_queued queued)
+  pub jobs : AllZip (IsJobOf options) window.jobs.items window.transfers.items
+  pub few : length window.transfers.items ≤ free
 
 module _ (options : CrawlOptions) (was : List Queued) (free : ℕ) where
   -- none begins yet
-  pub window_none : (window : Window) (queued : List Queued) → queued ≡ was → window.jobs.items ≡ [] → window.urls.items ≡ [] → window.waiting.items ≡ [] → IsWindow options was window queued free
+  pub window_none : (window : Window) (queued : List Queued) → queued ≡ was → window.jobs.items ≡ [] → window.transfers.items ≡ [] → window.waiting.items ≡ [] → IsWindow options was window queued free
   window_none window queued same jobs urls waiting = record {
     each = subst (λ (us : List InFlight). IsPermutation (urls_queued was) (urls_in_flight us ++ (urls_queued window.waiting.items ++ urls_queued queued))) (sym urls)
         (subst (λ (ws : List Queued). IsPermutation (urls_queued was) (urls_queued ws ++ urls_queued queued)) (sym waiting)
         (subst (λ (qs : List Queued). IsPermutation (urls_queued was) (urls_queued qs)) (sym same) (IsPermutation-refl (urls_queued was))));
     order = λ p. ap urls_queued (sym same) ∙ ap (λ (ws : List Queued). urls_queued ws ++ urls_queued queued) (sym waiting)
         ∙ ap (λ (us : List InFlight). urls_in_flight us ++ (urls_queued window.waiting.items ++ urls_queued queued)) (sym urls);
-    jobs = subst (λ (js : List Job). AllZip (IsJobOf options) js window.urls.items) (sym jobs) (subst (λ (us : List InFlight). AllZip (IsJobOf options) [] us) (sym urls) tt);
+    jobs = subst (λ (js : List Job). AllZip (IsJobOf options) js window.transfers.items) (sym jobs) (subst (λ (us : List InFlight). AllZip (IsJobOf options) [] us) (sym urls) tt);
     few = subst (λ (us : List InFlight). length us ≤ free) (sym urls) (omega arith);
   }
 
   -- the next URL begins
-  window_begins : (old new : Window) (one : Queued) (rest : List Queued) → IsWindow options was old (one ∷ rest) free → (options.parallel ≡ 1 → old.waiting.items ≡ []) → length old.urls.items < free → Begins options (url_queued one) old new
+  window_begins : (old new : Window) (one : Queued) (rest : List Queued) → IsWindow options was old (one ∷ rest) free → (options.parallel ≡ 1 → old.waiting.items ≡ []) → length old.transfers.items < free → Begins options (url_queued one) old new
       → IsWindow options was new rest free
   window_begins old new one rest w first room b =
-      let begun = urls_in_flight old.urls.items in
+      let begun = urls_in_flight old.transfers.items in
       let waiting = urls_queued old.waiting.items in
       let left = urls_queued rest in
       let url = url_queued one in
-      let urls : urls_in_flight new.urls.items ≡ begun ++ url ∷ [] = ap urls_in_flight b.urls ∙ map-append url_in_flight old.urls.items (b.one ∷ []) ∙ ap (λ (t : Text). begun ++ t ∷ []) b.its_url in
+      let urls : urls_in_flight new.transfers.items ≡ begun ++ url ∷ [] = ap urls_in_flight b.transfers ∙ map-append url_in_flight old.transfers.items (b.one ∷ []) ∙ ap (λ (t : Text). begun ++ t ∷ []) b.its_url in
       let each : IsPermutation (urls_queued was) ((begun ++ url ∷ []) ++ (waiting ++ left)) =
       IsPermutation-pop_more (urls_queued was) begun (waiting ++ url ∷ left) (waiting ++ left) url w.each (IsPermutation-middle waiting url left) in
       record {
@@ -164,15 +164,15 @@ module _ (options : CrawlOptions) (was : List Queued) (free : ℕ) where
             let now : urls_queued was ≡ begun ++ (url ∷ left) = subst (λ (ws : List Queued). urls_queued was ≡ begun ++ (urls_queued ws ++ url ∷ left)) none (w.order p) in
             subst (λ (us : List Text). urls_queued was ≡ us ++ (urls_queued new.waiting.items ++ left)) (sym urls)
             (subst (λ (ws : List Queued). urls_queued was ≡ (begun ++ url ∷ []) ++ (urls_queued ws ++ left)) (sym (b.waiting ∙ none)) (now ∙ sym (append_assoc begun (url ∷ []) left))));
-        jobs = subst (λ (js : List Job). AllZip (IsJobOf options) js new.urls.items) (sym b.jobs)
-            (subst (λ (us : List InFlight). AllZip (IsJobOf options) (old.jobs.items ++ b.job ∷ []) us) (sym b.urls) (zip_push (IsJobOf options) old.jobs.items old.urls.items b.job b.one w.jobs b.its));
-        few = subst (λ (us : List InFlight). length us ≤ free) (sym b.urls) (subst (λ n. n ≤ free) (sym (length-append old.urls.items (b.one ∷ []))) (omega (arith, room)));
+        jobs = subst (λ (js : List Job). AllZip (IsJobOf options) js new.transfers.items) (sym b.jobs)
+            (subst (λ (us : List InFlight). AllZip (IsJobOf options) (old.jobs.items ++ b.job ∷ []) us) (sym b.transfers) (zip_push (IsJobOf options) old.jobs.items old.transfers.items b.job b.one w.jobs b.its));
+        few = subst (λ (us : List InFlight). length us ≤ free) (sym b.transfers) (subst (λ n. n ≤ free) (sym (length-append old.transfers.items (b.one ∷ []))) (omega (arith, room)));
       }
 
   -- the next URL waits
   window_waits : (old new : Window) (one : Queued) (rest : List Queued) → IsWindow options was old (one ∷ rest) free → Waits (url_queued one) old new → IsWindow options was new rest free
   window_waits old new one rest w b =
-      let begun = urls_in_flight old.urls.items in
+      let begun = urls_in_flight old.transfers.items in
       let waiting = urls_queued old.waiting.items in
       let left = urls_queued rest in
       let url = url_queued one in
@@ -180,24 +180,24 @@ module _ (options : CrawlOptions) (was : List Queued) (free : ℕ) where
       sym (append_assoc waiting (url ∷ []) left)
       ∙ ap (λ (l : List Text). l ++ left) (ap (λ (t : Text). waiting ++ t ∷ []) (sym b.its_url) ∙ sym (map-append url_queued old.waiting.items (b.one ∷ [])) ∙ ap urls_queued (sym b.waiting)) in
       record {
-        each = subst (λ (us : List InFlight). IsPermutation (urls_queued was) (urls_in_flight us ++ (urls_queued new.waiting.items ++ left))) (sym b.urls)
+        each = subst (λ (us : List InFlight). IsPermutation (urls_queued was) (urls_in_flight us ++ (urls_queued new.waiting.items ++ left))) (sym b.transfers)
             (subst (λ (l : List Text). IsPermutation (urls_queued was) (begun ++ l)) moved w.each);
-        order = λ p. w.order p ∙ ap (λ (l : List Text). begun ++ l) moved ∙ ap (λ (us : List InFlight). urls_in_flight us ++ (urls_queued new.waiting.items ++ left)) (sym b.urls);
-        jobs = subst (λ (js : List Job). AllZip (IsJobOf options) js new.urls.items) (sym b.jobs) (subst (λ (us : List InFlight). AllZip (IsJobOf options) old.jobs.items us) (sym b.urls) w.jobs);
-        few = subst (λ (us : List InFlight). length us ≤ free) (sym b.urls) w.few;
+        order = λ p. w.order p ∙ ap (λ (l : List Text). begun ++ l) moved ∙ ap (λ (us : List InFlight). urls_in_flight us ++ (urls_queued new.waiting.items ++ left)) (sym b.transfers);
+        jobs = subst (λ (js : List Job). AllZip (IsJobOf options) js new.transfers.items) (sym b.jobs) (subst (λ (us : List InFlight). AllZip (IsJobOf options) old.jobs.items us) (sym b.transfers) w.jobs);
+        few = subst (λ (us : List InFlight). length us ≤ free) (sym b.transfers) w.few;
       }
 
-  pub window_on : (old new : Window) (one : Queued) (queued rest : List Queued) → queued ≡ one ∷ rest → IsWindow options was old queued free → (options.parallel ≡ 1 → old.waiting.items ≡ []) → length old.urls.items < free
-      → Sorts options (url_queued one) old new → IsWindow options was new rest free
+  pub window_on : (old new : Window) (one : Queued) (queued rest : List Queued) → queued ≡ one ∷ rest → IsWindow options was old queued free → (options.parallel ≡ 1 → old.waiting.items ≡ []) → length old.transfers.items < free
+      → BeginsOrWaits options (url_queued one) old new → IsWindow options was new rest free
   window_on old new one queued rest is w first room (inl b) = window_begins old new one rest (subst (λ (qs : List Queued). IsWindow options was old qs free) is w) first room b
   window_on old new one queued rest is w first room (inr b) = window_waits old new one rest (subst (λ (qs : List Queued). IsWindow options was old qs free) is w) b
 
 -- what begins is taken out of the queue
 pub window_takes : (options : CrawlOptions) (was queued : List Queued) (window : Window) (free : ℕ) (old new : QueueShown) → IsWindow options was window queued free
     → old.queued ≡ urls_queued was → new.queued ≡ urls_queued (window.waiting.items ++ queued) → old.options ≡ options → new.left ≡ old.left → new.lines ≡ old.lines → new.options ≡ old.options → new.file ≡ old.file
-    → TakesOut (urls_in_flight window.urls.items) old new
+    → TakesOut (urls_in_flight window.transfers.items) old new
 window_takes options was queued window free old new w before after is left lines same file =
-    let begun = urls_in_flight window.urls.items in
+    let begun = urls_in_flight window.transfers.items in
     let rest : new.queued ≡ urls_queued window.waiting.items ++ urls_queued queued = after ∙ map-append url_queued window.waiting.items queued in
     record {
       each = subst (λ (l : List Text). IsPermutation l (begun ++ new.queued)) (sym before) (subst (λ (l : List Text). IsPermutation (urls_queued was) (begun ++ l)) (sym rest) w.each);
@@ -209,17 +209,17 @@ window_takes options was queued window free old new w before after is left lines
     }
 
 module _ {A E : Type 0} where
-  -- a URL that is passed over waits
-  pub passed_on : (r : Result A E) (options : CrawlOptions) (url : Text) (one : Queued) (old new : Window) → url_queued one ≡ url → OnOk r (new.waiting.items ≡ old.waiting.items ++ one ∷ [])
-      → new.jobs.items ≡ old.jobs.items → new.urls.items ≡ old.urls.items → OnOk r (Sorts options url old new)
-  passed_on (Ok done) options url one old new its waiting jobs urls = inr (record { one = one; its_url = its; jobs = jobs; urls = urls; waiting = waiting })
-  passed_on (Err error) options url one old new its waiting jobs urls = tt
+  -- a URL waits
+  pub waiting_on : (r : Result A E) (options : CrawlOptions) (url : Text) (one : Queued) (old new : Window) → url_queued one ≡ url → OnOk r (new.waiting.items ≡ old.waiting.items ++ one ∷ [])
+      → new.jobs.items ≡ old.jobs.items → new.transfers.items ≡ old.transfers.items → OnOk r (BeginsOrWaits options url old new)
+  waiting_on (Ok done) options url one old new its waiting jobs transfers = inr (record { one = one; its_url = its; jobs = jobs; transfers = transfers; waiting = waiting })
+  waiting_on (Err error) options url one old new its waiting jobs transfers = tt
 
   -- a transfer that is added begins
   pub begun_on : (r : Result A E) (options : CrawlOptions) (url : Text) (job : Job) (one : InFlight) (old new : Window) → string_bytes one.url ≡ url → IsJobOf options job one → OnOk r (new.jobs.items ≡ old.jobs.items ++ job ∷ [])
-      → OnOk r (new.urls.items ≡ old.urls.items ++ one ∷ []) → new.waiting.items ≡ old.waiting.items → OnOk r (Sorts options url old new)
-  begun_on (Ok done) options url job one old new its is jobs urls waiting = inl (record { job = job; one = one; its_url = its; its = is; jobs = jobs; urls = urls; waiting = waiting })
-  begun_on (Err error) options url job one old new its is jobs urls waiting = tt
+      → OnOk r (new.transfers.items ≡ old.transfers.items ++ one ∷ []) → new.waiting.items ≡ old.waiting.items → OnOk r (Begins options url old new)
+  begun_on (Ok done) options url job one old new its is jobs transfers waiting = record { job = job; one = one; its_url = its; its = is; jobs = jobs; transfers = transfers; waiting = waiting }
+  begun_on (Err error) options url job one old new its is jobs transfers waiting = tt
 
   -- its place is awaited
   pub begun_awaits : (r : Result A E) (awaited : List Bool) (place : ℕ) (one : InFlight) (old new : List InFlight) → one.place ≡ place → OnOk r (new ≡ old ++ one ∷ []) → OnOk r (is_awaited awaited place ≡ true → AreAwaited awaited old → AreAwaited awaited new)
@@ -227,6 +227,6 @@ module _ {A E : Type 0} where
   begun_awaits (Err error) awaited place one old new at urls = tt
 
   -- the places of the others stay awaited
-  pub passed_awaits : (r : Result A E) (first last : Hosts) (was now : List Bool) (old new : List InFlight) → KeepsAwaited first last was now → new ≡ old → OnOk r (AreAwaited was old → AreAwaited now new)
-  passed_awaits (Ok done) first last was now old new keeps same = λ all. subst (AreAwaited now) (sym same) (awaited_on first last was now old keeps all)
-  passed_awaits (Err error) first last was now old new keeps same = tt
+  pub waiting_awaits : (r : Result A E) (first last : Hosts) (was now : List Bool) (old new : List InFlight) → KeepsAwaited first last was now → new ≡ old → OnOk r (AreAwaited was old → AreAwaited now new)
+  waiting_awaits (Ok done) first last was now old new keeps same = λ all. subst (AreAwaited now) (sym same) (awaited_on first last was now old keeps all)
+  waiting_awaits (Err error) first last was now old new keeps same = tt

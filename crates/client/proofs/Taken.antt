@@ -7,7 +7,7 @@ use Rattle.client.specs.declared.crawl.in_flight.InFlight.{InFlight}
 
 -- what each taken result leaves, all of them leave
 module _ {X : Type 0} (of : OutputShown → X) (keeps : (result : JobResult) (old new : OutputShown) → TakesResult result old new → of new ≡ of old) where
-  kept_all : (told : List JobResult) (old new : OutputShown) → AllTaken TakesShown old new told → of new ≡ of old
+  kept_all : (came : List JobResult) (old new : OutputShown) → AllTaken TakesShown old new came → of new ≡ of old
   kept_all [] old new same = ap of same
   kept_all (result ∷ earlier) old new taken = keeps result taken.0 new taken.2 ∙ kept_all earlier old taken.0 taken.1
 
@@ -19,18 +19,18 @@ keeps_name : (result : JobResult) (old new : OutputShown) → TakesResult result
 keeps_name result old new (inl same) = ap (λ (o : OutputShown). o.name) same
 keeps_name result old new (inr w) = w.writes.name
 
-pub flags_all : (told : List JobResult) (old new : OutputShown) → AllTaken TakesShown old new told → new.flags ≡ old.flags
-flags_all told old new taken = kept_all (λ (o : OutputShown). o.flags) keeps_flags told old new taken
+pub flags_all : (came : List JobResult) (old new : OutputShown) → AllTaken TakesShown old new came → new.flags ≡ old.flags
+flags_all came old new taken = kept_all (λ (o : OutputShown). o.flags) keeps_flags came old new taken
 
-pub name_all : (told : List JobResult) (old new : OutputShown) → AllTaken TakesShown old new told → new.name ≡ old.name
-name_all told old new taken = kept_all (λ (o : OutputShown). o.name) keeps_name told old new taken
+pub name_all : (came : List JobResult) (old new : OutputShown) → AllTaken TakesShown old new came → new.name ≡ old.name
+name_all came old new taken = kept_all (λ (o : OutputShown). o.name) keeps_name came old new taken
 
 -- nothing failed, if nothing has failed since
 whole_one : (result : JobResult) (old new : OutputShown) → TakesResult result old new → new.fault ≡ None → old.fault ≡ None
 whole_one result old new (inl same) whole = sym (ap (λ (o : OutputShown). o.fault) same) ∙ whole
 whole_one result old new (inr w) whole = w.writes.whole
 
-pub whole_all : (told : List JobResult) (old new : OutputShown) → AllTaken TakesShown old new told → new.fault ≡ None → old.fault ≡ None
+pub whole_all : (came : List JobResult) (old new : OutputShown) → AllTaken TakesShown old new came → new.fault ≡ None → old.fault ≡ None
 whole_all [] old new same whole = sym (ap (λ (o : OutputShown). o.fault) same) ∙ whole
 whole_all (result ∷ earlier) old new taken whole = whole_all earlier old taken.0 taken.1 (whole_one result taken.0 new taken.2 whole)
 
@@ -39,13 +39,13 @@ none_one : (result : JobResult) (old new : OutputShown) → TakesResult result o
 none_one result old new (inl same) none = ap (λ (o : OutputShown). o.in_flight) same ∙ none
 none_one result old new (inr w) none = absurd (omega (arith, w.below, ap (λ (fs : List InFlight). length fs) none))
 
-pub none_all : (told : List JobResult) (old new : OutputShown) → AllTaken TakesShown old new told → old.in_flight ≡ [] → new.in_flight ≡ []
+pub none_all : (came : List JobResult) (old new : OutputShown) → AllTaken TakesShown old new came → old.in_flight ≡ [] → new.in_flight ≡ []
 none_all [] old new same none = ap (λ (o : OutputShown). o.in_flight) same ∙ none
 none_all (result ∷ earlier) old new taken none = none_one result taken.0 new taken.2 (none_all earlier old taken.0 taken.1 none)
 
 -- what is taken, as it is shown
 module _ {R : Type 0} (shown : R → OutputShown) where
-  pub shown_all : (told : List JobResult) (old new : R) → AllTaken (λ (before after : R) number done span. TakesShown (shown before) (shown after) number done span) old new told
-      → AllTaken TakesShown (shown old) (shown new) told
+  pub shown_all : (came : List JobResult) (old new : R) → AllTaken (λ (before after : R) number done span. TakesShown (shown before) (shown after) number done span) old new came
+      → AllTaken TakesShown (shown old) (shown new) came
   shown_all [] old new same = ap shown same
   shown_all (result ∷ earlier) old new taken = (shown taken.0, shown_all earlier old taken.0 taken.1, taken.2)

@@ -1,4 +1,4 @@
--- What a client shows.
+-- The state of a client.
 use Rattle.cache.specs.Pools.{PoolShown}
 
 -- its connections, and the dial that opens them

@@ -1,11 +1,11 @@
--- What a crawl does.
-use Rattle.std.specs.Prelude.{◌≡◌, ◌≢◌, ◌≤◌, ◌++◌, [], ℕ, List, length, map, min, string_bytes, Result, Ok, Err, Option, Some, None}
+-- Crawls: their input, their state after each step, and their result.
+use Rattle.std.specs.Prelude.{◌≡◌, ◌≢◌, ◌≤◌, ◌++◌, [], ℕ, List, length, map, min, string_bytes, false, Result, Ok, Err, IsOk, IfErr, Option, Some, None}
 use Rattle.std.specs.List.{All}
 use Rattle.std.specs.List.Sorted.{IsPermutation}
 use Rattle.exchange.specs.declared.job.Job.{Job}
 use Rattle.run_loop.specs.Taking.{JobResult}
 use Rattle.script_run.specs.Streams.{Stream}
-use Rattle.script_text.specs.declared.fault.FaultKind.{FaultKind}
+use Rattle.client.specs.Faults.{CanEnd, line_fault}
 use Rattle.client.specs.FileLines.{AreFirst, HasNoLine, ReadsFile, nothing_read, urls_in}
 use Rattle.client.specs.Lines.{Text}
 use Rattle.client.specs.Reading.{QueueShown}
@@ -22,8 +22,8 @@ use Rattle.client.specs.declared.options.CrawlOptions.{CrawlOptions}
 use Rattle.client.specs.declared.options.UrlFile.{UrlFile}
 use Rattle.client.specs.declared.options.UrlFile.TheVariants as files
 
--- what a crawl is given: its options, the URLs that come first, whether a file has more, and the file's bytes, if they
--- are known
+-- the input of a crawl: its options, its first URLs, the kind of the file that has more, and the bytes of that file, if
+-- they are known
 pub record CrawlGiven : Type 0 where
   pub options : CrawlOptions
   pub file : UrlFile
@@ -33,23 +33,23 @@ pub record CrawlGiven : Type 0 where
 abbrev pub crawl_given : Crawl → Option (List ℕ) → CrawlGiven
 crawl_given crawl bytes = record { options = crawl.options; file = crawl.file; words = map string_bytes crawl.urls.items; bytes = bytes }
 
--- the queue of a crawl, of which nothing was read yet
+-- the queue at the start of a crawl
 abbrev pub queue_given : CrawlGiven → QueueShown
 queue_given crawl = record { options = crawl.options; file = crawl.file; left = crawl.words; lines = nothing_read; queued = [] }
 
--- Each URL that was read has its line, or is in flight, or is in the queue; and each line is of a result that came of the
--- job of its URL. If one transfer is in flight at a time, lines stand in the order of the URLs.
+-- Each URL that was read has its line, or is in flight, or is in the queue; and each line is of a result of its URL's job.
+-- If one transfer is in flight at a time, lines are in the order of the URLs.
 pub record AreAccounted (options : CrawlOptions) (jobs : List Job) (results : List JobResult) (given queued : List Text) (first : Stream) (now : OutputShown) : Type 0 where
   pub lines : List Written
   pub are : AreWritten lines first now.stream now.fault
-  pub its : All (IsOfResult options jobs results) lines
-  pub flying : All (HasJob options jobs) now.in_flight
+  pub of_results : All (IsOfResult options jobs results) lines
+  pub have_jobs : All (HasJob options jobs) now.in_flight
   pub each : IsPermutation given (urls_written lines ++ (urls_in_flight now.in_flight ++ queued))
   pub order : options.parallel ≡ 1 → given ≡ urls_written lines ++ (urls_in_flight now.in_flight ++ queued)
-  pub few : options.parallel ≡ 1 → length now.in_flight ≤ 1
+  pub at_most_one : options.parallel ≡ 1 → length now.in_flight ≤ 1
   pub tally : now.tally ≡ tally_of now.flags lines
 
--- a crawl has read some of its URLs, which are accounted for; from there reads of the file will give these bytes, if they
+-- a crawl has read some of its URLs, which are accounted for; further reads of the file will return these bytes, if they
 -- are known
 pub record IsAt (crawl : CrawlGiven) (jobs : List Job) (results : List JobResult) (first : Stream) (source : Option (List ℕ)) (queue : QueueShown) (now : OutputShown) : Type 0 where
   pub options : queue.options ≡ crawl.options
@@ -62,7 +62,7 @@ pub record IsAt (crawl : CrawlGiven) (jobs : List Job) (results : List JobResult
   pub are : given ++ queue.left ≡ crawl.words ++ from_file
   pub accounted : AreAccounted crawl.options jobs results given queue.queued first now
 
--- the same, somewhere in the file, with some queue
+-- the same for some rest of the file and some queue
 abbrev pub IsSomewhere : CrawlGiven → List Job → List JobResult → Stream → OutputShown → Type 0
 IsSomewhere crawl jobs results first now = (source : Option (List ℕ)) × (queue : QueueShown) × IsAt crawl jobs results first source queue now
 
@@ -81,36 +81,32 @@ jobs_begun _ = []
 abbrev pub none_begun : Unit {0} → List Job
 none_begun done = []
 
--- this holds if no more is to be done
+-- this is true if the step ends the crawl
 abbrev pub IfEnd : Step → Type 0 → Type 0
 IfEnd steps.End P = P
 IfEnd _ P = Unit {0}
 
--- a part of a crawl led to here, with these jobs to be begun
+-- a step leads to this state, and begins these jobs
 abbrev pub HasStepped : {A : Type 0} → (A → List Job) → CrawlGiven → List Job → List JobResult → Stream → Option (List ℕ) → QueueShown → OutputShown → Result A CrawlFault → Type 0
 HasStepped begun crawl jobs results first source queue now (Ok a) = IsAt crawl (begun a ++ jobs) results first source queue now
 HasStepped begun crawl jobs results first source queue now (Err fault) = IsSomewhere crawl jobs results first now
 
--- why a line could not be written, if that is the fault
-abbrev pub line_fault : Option CrawlFault → Option FaultKind
-line_fault (Some (faults.Output kind)) = Some kind
-line_fault _ = None
-
--- URLs were fetched up to here; all of them, if nothing failed
-pub record HasFetched {K : Type 0} (crawled : K → K → List Job → List JobResult → Type 0) (crawl : CrawlGiven) (first : Stream) (now : OutputShown) (is_whole : Type 0) : Type 0 where
+-- URLs were fetched up to this state; all of them, if nothing failed
+pub record HasFetched {K : Type 0} (crawled : K → K → List Job → List JobResult → Type 0) (crawl : CrawlGiven) (first : Stream) (now : OutputShown) (result : Result (Unit {0}) CrawlFault) : Type 0 where
   pub jobs : List Job
   pub results : List JobResult
   pub ran : HasCrawled crawled jobs results
   pub source : Option (List ℕ)
   pub queue : QueueShown
   pub at : IsAt crawl jobs results first source queue now
-  pub whole : is_whole → now.fault ≡ None → IsOver queue now.in_flight
+  pub whole : IsOk result → now.fault ≡ None → IsOver queue now.in_flight
+  pub ended : IfErr result (CanEnd crawl.options)
 
--- A crawl is carried out. Each URL, of the words and then of the file, has at most one line, which is written whole, but
--- the last if it could not be; if there is no fault, each has one. Each line is of a result of the job of its URL, or of a
--- bad URL, if these are passed over. If one transfer is in flight at a time, lines stand in the order of the URLs. The
--- tally counts the lines. If the bytes of the file are known, its URLs are the first in these bytes, and all of them if
--- there is no fault.
+-- A crawl runs to its end. Each URL, of the words and then of the file, has at most one line, and exactly one if there is
+-- no fault. Lines are written whole, except the last one if there is a fault of a line. Each is of a result of its URL's
+-- job, or of a bad URL, if bad URLs are skipped. If one transfer is in flight at a time, lines are in the order of the
+-- URLs. The tally counts the lines. If the bytes of the file are known, its URLs are the first in these bytes, and all of
+-- them if there is no fault. A bad URL is a fault only if bad URLs are not skipped.
 pub record Crawls {K : Type 0} (crawled : K → K → List Job → List JobResult → Type 0) (finished : K → List JobResult → Type 0) (crawl : CrawlGiven) (old new : Stream) (result : Crawled) : Type 0 where
   pub from_file : List Text
   pub none : crawl.file ≡ files.None → from_file ≡ []
@@ -121,13 +117,14 @@ pub record Crawls {K : Type 0} (crawled : K → K → List Job → List JobResul
   pub each : IsPermutation (crawl.words ++ from_file) (urls_written lines ++ left)
   pub order : crawl.options.parallel ≡ 1 → crawl.words ++ from_file ≡ urls_written lines ++ left
   pub whole : result.fault ≡ None → left ≡ []
+  pub bad_url : (number : ℕ) → result.fault ≡ Some (faults.BadUrl number) → crawl.options.flags.skip_bad ≡ false
   pub tally : result.tally ≡ tally_of crawl.options.flags lines
   pub jobs : List Job
   pub results : List JobResult
-  pub its : All (IsOfResult crawl.options jobs results) lines
+  pub of_results : All (IsOfResult crawl.options jobs results) lines
   pub ran : HasRun crawled finished jobs results
 
--- hosts for which a cache has room: those of the words, if there is no file
+-- number of hosts for which a cache has places: at most one for each URL, if there is no file
 abbrev pub hosts_of : UrlFile → ℕ → ℕ → ℕ
 hosts_of files.None urls most = min urls most
 hosts_of _ urls most = most

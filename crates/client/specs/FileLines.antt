@@ -6,7 +6,7 @@ use Rattle.std.specs.Str.Lines.{strip_carriage_return}
 use Rattle.std.specs.Str.Lossy.{utf8_lossy}
 use Rattle.client.specs.Lines.{Text}
 use Rattle.client.specs.declared.crawl.lines.Line.{Line}
-use Rattle.client.specs.declared.crawl.lines.Line.TheVariants.{Url, Bad, Passed, Unread, Over}
+use Rattle.client.specs.declared.crawl.lines.Line.TheVariants.{Url, Bad, Skipped, Unread, Over}
 use Rattle.client.specs.declared.crawl.lines.UrlLines.{UrlLines}
 
 -- LF ends a line
@@ -17,14 +17,14 @@ ends_line byte = byte == 10
 unfoldable pub line_front : List ℕ → List ℕ
 line_front line = take 2048 (strip_carriage_return line)
 
--- a line is passed over if it is empty, or begins with `#`
-abbrev pub is_passed : List ℕ → Bool
-is_passed [] = true
-is_passed (byte ∷ bytes) = byte == 35
+-- a line is skipped if it is empty, or begins with `#`
+abbrev pub is_skipped : List ℕ → Bool
+is_skipped [] = true
+is_skipped (byte ∷ bytes) = byte == 35
 
--- the URL of a line, if it is not passed over; each byte that is not UTF-8 becomes U+FFFD
+-- the URL of a line, unless the line is skipped; each byte that is not UTF-8 becomes U+FFFD
 abbrev pub urls_of_front : List ℕ → List Text
-urls_of_front front = if is_passed front then [] else (utf8_lossy front ∷ [])
+urls_of_front front = if is_skipped front then [] else (utf8_lossy front ∷ [])
 
 abbrev pub urls_on : List ℕ → List Text
 urls_on line = urls_of_front (line_front line)
@@ -41,7 +41,7 @@ pub record LinesShown : Type 0 where
 abbrev pub lines_shown : UrlLines → LinesShown
 lines_shown lines = record { pending = drop lines.from lines.bytes.items; is_at_end = lines.is_at_end }
 
--- nothing was read yet
+-- the lines of a file before the first read
 abbrev pub nothing_read : LinesShown
 nothing_read = record { pending = []; is_at_end = false }
 
@@ -49,12 +49,12 @@ nothing_read = record { pending = []; is_at_end = false }
 abbrev pub HasNoEnd : List ℕ → Type 0
 HasNoEnd bytes = All (λ byte. ends_line byte ≡ false) bytes
 
--- a line with these URLs is taken, whatever follows the bytes that were read
+-- a line with these URLs is taken, whatever bytes follow those that were read
 pub record TakesLine (urls : List Text) (old new : LinesShown) : Type 0 where
   pub is_at_end : new.is_at_end ≡ old.is_at_end
   pub urls_are : (rest : List ℕ) → (old.is_at_end ≡ true → rest ≡ []) → urls_in (old.pending ++ rest) ≡ urls ++ urls_in (new.pending ++ rest)
 
--- more is to be read before there is a line
+-- the next line is not whole, and more can be read
 pub record NeedsMore (lines : LinesShown) : Type 0 where
   pub has_more : lines.is_at_end ≡ false
   pub no_end : HasNoEnd lines.pending
@@ -68,7 +68,7 @@ pub record HasNoLine (lines : LinesShown) : Type 0 where
 abbrev pub urls_returned : Line → Option (List Text)
 urls_returned (Url url number) = Some (string_bytes url ∷ [])
 urls_returned (Bad url number) = Some (string_bytes url ∷ [])
-urls_returned Passed = Some []
+urls_returned Skipped = Some []
 urls_returned Unread = None
 urls_returned Over = None
 
@@ -76,7 +76,7 @@ urls_returned Over = None
 abbrev pub IsNextLine : Line → LinesShown → LinesShown → Type 0
 IsNextLine (Url url number) old new = TakesLine (string_bytes url ∷ []) old new
 IsNextLine (Bad url number) old new = TakesLine (string_bytes url ∷ []) old new
-IsNextLine Passed old new = TakesLine [] old new
+IsNextLine Skipped old new = TakesLine [] old new
 IsNextLine Unread old new = (new ≡ old) × NeedsMore new
 IsNextLine Over old new = (new ≡ old) × HasNoLine new
 

@@ -1,4 +1,4 @@
--- Which places the hosts of a crawl keep, and which addresses are given for them.
+-- The places of the hosts of a crawl, and the addresses that are given for hosts.
 use Rattle.std.specs.Prelude.{◌≡◌, ◌⊎◌, ◌<◌, ◌++◌, ◌∷◌, [], ℕ, Bool, true, false, List, length, map, string_bytes, slice_get, unwrap_or, Option, Some, None}
 use Rattle.std.specs.List.{All}
 use Rattle.std.specs.Char.{to_ascii_lowercase}
@@ -13,7 +13,7 @@ abbrev pub IsGivenFor : List ℕ → ℕ → Resolved → Type 0
 IsGivenFor host port given =
     (socket_port given.address ≡ port) × (map to_ascii_lowercase (string_bytes given.host) ≡ map to_ascii_lowercase host)
 
--- the address of the first that is given for that host and port; none if none is
+-- the address of the first entry for that host and port; none if there is no entry
 abbrev pub IsGivenAddress : List ℕ → ℕ → List Resolved → Option SocketAddr → Type 0
 IsGivenAddress host port [] found = found ≡ None
 IsGivenAddress host port (given ∷ rest) found =
@@ -35,8 +35,8 @@ abbrev pub GrowsOrStays : List Bool → List Bool → Type 0
 GrowsOrStays old new = (new ≡ old) ⊎ (new ≡ old ++ false ∷ [])
 
 -- the place of a transfer is awaited, if it is one of the places
-abbrev pub IsNoted : List Bool → InFlight → Type 0
-IsNoted awaited one = one.place < length awaited → is_awaited awaited one.place ≡ true
+abbrev pub IsAwaited : List Bool → InFlight → Type 0
+IsAwaited awaited one = one.place < length awaited → is_awaited awaited one.place ≡ true
 
 -- the places of these transfers are awaited
 abbrev pub AreAwaited : List Bool → List InFlight → Type 0

@@ -9,10 +9,11 @@ pub mod Unused
 pub mod Alone
 pub mod Hosts
 pub mod Placing
+pub mod Faults
 pub mod FileLines
 pub mod Reading
 pub mod Written
 pub mod Steps
-pub mod Sorting
+pub mod Windows
 pub mod Crawling
 pub mod LookedUp

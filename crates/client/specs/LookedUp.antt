@@ -1,4 +1,4 @@
--- What the answer of a look-up may be.
+-- Answers of look-ups.
 use Rattle.std.specs.Prelude.{◌≡◌, ◌⊎◌, [], ℕ, List}
 use Rattle.std.specs.declared.net.socket_addr.SocketAddr.{SocketAddr}
 

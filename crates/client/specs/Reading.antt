@@ -1,5 +1,5 @@
--- How the URLs of a crawl are read and begun.
-use Rattle.std.specs.Prelude.{◌≡◌, ◌++◌, ◌∷◌, [], ℕ, List, map, reverse, string_bytes, Option}
+-- The queue of a crawl: URLs that are read into it, and taken out of it.
+use Rattle.std.specs.Prelude.{◌≡◌, ◌++◌, ◌∷◌, [], ℕ, List, map, reverse, string_bytes, Option, Bool, true}
 use Rattle.std.specs.List.Sorted.{IsPermutation}
 use Rattle.client.specs.FileLines.{KnowsEnd, LinesShown, ReadsFile, lines_shown}
 use Rattle.client.specs.Lines.{Text}
@@ -9,8 +9,8 @@ use Rattle.client.specs.declared.options.CrawlOptions.{CrawlOptions}
 use Rattle.client.specs.declared.options.UrlFile.{UrlFile}
 use Rattle.client.specs.declared.options.UrlFile.TheVariants as files
 
--- a queue of URLs: the options, the kind of file, the URLs among the words that are not read yet, the lines of the file
--- that are not, and the URLs that were read, in order
+-- a queue of URLs: the options, the kind of file, the unread URLs among the words, the unread lines of the file, and the
+-- URLs that were read, in order
 pub record QueueShown : Type 0 where
   pub options : CrawlOptions
   pub file : UrlFile
@@ -68,3 +68,9 @@ pub record TakesOut (taken : List Text) (old new : QueueShown) : Type 0 where
   pub lines : new.lines ≡ old.lines
   pub options : new.options ≡ old.options
   pub file : new.file ≡ old.file
+
+-- a bad URL is taken out of the queue, since bad URLs are skipped; if one transfer is in flight at a time, once none is
+pub record TakesBad (is_idle : Bool) (url : Text) (old new : QueueShown) : Type 0 where
+  pub takes : TakesOut (url ∷ []) old new
+  pub skips : old.options.flags.skip_bad ≡ true
+  pub idle : old.options.parallel ≡ 1 → is_idle ≡ true

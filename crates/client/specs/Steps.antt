@@ -1,4 +1,4 @@
--- The calls of what carries out the jobs of a crawl.
+-- The calls of a crawler, and the jobs and results of URLs.
 use Rattle.std.specs.Prelude.{◌≡◌, false, true, ◌⊎◌, ℕ, List, [], ◌++◌, flat_map, string_bytes, Option, Some, None}
 use Rattle.std.specs.List.{All, Contains}
 use Rattle.conn_key.specs.Target.{GivesTarget}
@@ -10,7 +10,7 @@ use Rattle.client.specs.Written.{Written}
 use Rattle.client.specs.declared.crawl.in_flight.InFlight.{InFlight}
 use Rattle.client.specs.declared.options.CrawlOptions.{CrawlOptions}
 
--- the request to the cache for the transfer of that number: it reuses connections as the options say
+-- the request to the cache for the transfer of that number, with the limits of the options
 abbrev pub want_of : CrawlOptions → ℕ → Want
 want_of options number = record { transfer = number; max_age = options.max_age; max_life = options.max_life; lane = 0; fresh = options.flags.fresh; forbid_reuse = false }
 
@@ -36,7 +36,7 @@ pub record IsResultOf (options : CrawlOptions) (jobs : List Job) (results : List
   pub method : job.method ≡ options.method
   pub target : ∥ GivesTarget url job.target ∥₁
 
--- the same of the result of a line; a bad URL has a line only if bad URLs are passed over
+-- the same for the result of a line; a bad URL has a line only if bad URLs are skipped
 abbrev pub IsEndOf : CrawlOptions → List Job → List JobResult → Text → Option JobResult → Type 0
 IsEndOf options jobs results url None = options.flags.skip_bad ≡ true
 IsEndOf options jobs results url (Some result) = IsResultOf options jobs results url result
@@ -44,7 +44,7 @@ IsEndOf options jobs results url (Some result) = IsResultOf options jobs results
 abbrev pub IsOfResult : CrawlOptions → List Job → List JobResult → Written → Type 0
 IsOfResult options jobs results line = IsEndOf options jobs results line.url line.ended
 
--- a call that begins jobs, and gives results, the newest first
+-- a call that begins jobs, and its results, the newest first
 pub record CrawlCall (K : Type 0) : Type 0 where
   pub before : K
   pub after : K
@@ -60,7 +60,7 @@ results_in call = call.results
 abbrev pub IsMade : {K : Type 0} → (K → K → List Job → List JobResult → Type 0) → CrawlCall K → Type 0
 IsMade crawled call = crawled call.before call.after call.jobs call.results
 
--- calls began these jobs and gave these results, the newest first, and no others
+-- all calls together began these jobs, and had these results, the newest first
 pub record HasCrawled {K : Type 0} (crawled : K → K → List Job → List JobResult → Type 0) (jobs : List Job) (results : List JobResult) : Type 0 where
   pub calls : List (CrawlCall K)
   pub made : All (IsMade crawled) calls
@@ -71,11 +71,11 @@ pub record HasCrawled {K : Type 0} (crawled : K → K → List Job → List JobR
 pub record HasFinished {K : Type 0} (crawled : K → K → List Job → List JobResult → Type 0) (finished : K → List JobResult → Type 0) (jobs : List Job) (results : List JobResult) : Type 0 where
   pub before : List JobResult
   pub ran : HasCrawled crawled jobs before
-  pub last : K
-  pub told : List JobResult
-  pub finishes : finished last told
-  pub results_are : results ≡ told ++ before
+  pub crawler : K
+  pub rest : List JobResult
+  pub finishes : finished crawler rest
+  pub results_are : results ≡ rest ++ before
 
--- or there are none
+-- the same, or there was no call
 abbrev pub HasRun : {K : Type 0} → (K → K → List Job → List JobResult → Type 0) → (K → List JobResult → Type 0) → List Job → List JobResult → Type 0
 HasRun crawled finished jobs results = ((jobs ≡ []) × (results ≡ [])) ⊎ HasFinished crawled finished jobs results

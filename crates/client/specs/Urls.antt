@@ -1,4 +1,4 @@
--- Which texts are URLs that can be fetched.
+-- URLs that can be fetched.
 use Rattle.std.specs.Prelude.{◌≡◌, ◌≢◌, ◌⊎◌, ℕ, true, false, List}
 use Rattle.std.specs.List.{list_any}
 use Rattle.std.specs.Str.{chars}
@@ -18,7 +18,7 @@ abbrev pub IsBadUrl : List ℕ → Type 0
 IsBadUrl url = ((error : KeyError) × Refuses url error × (error ≢ Memory)) ⊎ (list_any is_unprintable (chars url) ≡ true)
 
 -- a URL that is refused is bad, if memory did not run out
-abbrev pub IsWhyNot : List ℕ → UrlFault → Type 0
-IsWhyNot url faults.Memory = Unit {0}
-IsWhyNot url faults.Unprintable = IsBadUrl url
-IsWhyNot url (faults.NoTarget error) = IsBadUrl url
+abbrev pub IsUrlFault : List ℕ → UrlFault → Type 0
+IsUrlFault url faults.Memory = Unit {0}
+IsUrlFault url faults.Unprintable = IsBadUrl url
+IsUrlFault url (faults.NoTarget error) = IsBadUrl url

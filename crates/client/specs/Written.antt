@@ -1,4 +1,4 @@
--- The lines of a crawl, and what is written of them.
+-- The lines of a crawl, and its output.
 use Rattle.std.specs.Prelude.{◌≡◌, ◌+◌, ◌-◌, ◌^◌, ◌<◌, ◌⊎◌, ◌&&◌, ◌++◌, ◌∷◌, [], ℕ, min, nat_le, length, get_or, remove, count_by, flat_map, map, string_bytes, if◌then◌else◌, Bool, true, false, List, String, Option, Some, None, Result, Ok, Err}
 use Rattle.std.specs.Global.{Global}
 use Rattle.std.specs.Borrow.{GName}
@@ -23,7 +23,7 @@ pub record Written : Type 0 where
   pub ended : Option JobResult
   pub text : Text
 
--- a transfer that ended so has failed: it has no response, or one that counts as failed
+-- true if a transfer failed: it has no response, or one whose status the options count as failed
 abbrev pub done_failed : CrawlFlags → Done → Bool
 done_failed flags (Good answer) = flags.fail && nat_le 400 answer.status
 done_failed flags (Bad fault) = true
@@ -37,9 +37,9 @@ has_failed flags line = ended_badly flags line.ended
 
 -- numbers of lines, and of those of failed URLs, each at most the greatest of 64 bits
 abbrev pub tally_of : CrawlFlags → List Written → Tally
-tally_of flags lines = record { told = min (length lines) (2 ^ 64 - 1); failed = min (count_by (has_failed flags) lines) (2 ^ 64 - 1) }
+tally_of flags lines = record { lines = min (length lines) (2 ^ 64 - 1); failed = min (count_by (has_failed flags) lines) (2 ^ 64 - 1) }
 
--- the text is the line of its URL and result; if lines are JSON, and of bad URLs, nothing is said
+-- the text is the line of its URL and result; a JSON line and the line of a bad URL are not specified
 abbrev pub IsTextOf : CrawlFlags → Text → Option JobResult → Text → Type 0
 IsTextOf flags url None text = Unit {0}
 IsTextOf flags url (Some result) text = flags.json ≡ false → text ≡ line_of url (fetched_as result.span.retried result.done)
@@ -79,7 +79,7 @@ abbrev pub AreWritten : List Written → Stream → Stream → Option FaultKind 
 AreWritten lines old new None = AreWhole lines old new
 AreWritten lines old new (Some kind) = LastFails lines old new kind
 
--- how far a crawl is: its transfers in flight, its tally, its output, and why a line could not be written
+-- the state of a crawl: its transfers in flight, its tally, its output, and the fault of a line
 pub record OutputShown : Type 0 where
   pub flags : CrawlFlags
   pub in_flight : List InFlight
@@ -100,7 +100,7 @@ output_shown progress stream name = record {
 
 -- a line is counted
 pub record Counts (failed : Bool) (old new : Tally) : Type 0 where
-  pub lines : new.told ≡ min (old.told + 1) (2 ^ 64 - 1)
+  pub lines : new.lines ≡ min (old.lines + 1) (2 ^ 64 - 1)
   pub failures : new.failed ≡ min (old.failed + (if failed then 1 else 0)) (2 ^ 64 - 1)
 
 -- a line is written, or not whole, and counted
@@ -133,8 +133,8 @@ pub record WritesResult (result : JobResult) (old new : OutputShown) : Type 0 wh
   pub ended : line.ended ≡ Some result
   pub writes : WritesLine line old new
 
--- a result is taken: its line is written, or nothing is done, as no such transfer is in flight, or a line could not be
--- written before
+-- a result is taken: its line is written; or nothing is done, since no such transfer is in flight, or an earlier line
+-- could not be written
 abbrev pub TakesResult : JobResult → OutputShown → OutputShown → Type 0
 TakesResult result old new = (new ≡ old) ⊎ WritesResult result old new
 
@@ -148,7 +148,7 @@ pub record KeepsProgress (old new : Progress) : Type 0 where
   pub flags : new.flags ≡ old.flags
   pub in_flight : new.in_flight.items ≡ old.in_flight.items
 
--- transfers of these URLs are in flight too
+-- these transfers are in flight too
 pub record BeginsAll (urls : List InFlight) (old new : OutputShown) : Type 0 where
   pub in_flight : new.in_flight ≡ old.in_flight ++ urls
   pub tally : new.tally ≡ old.tally

@@ -1,4 +1,4 @@
-//! Fetches any number of URLs over one cache, many at once, and writes a line for each.
+//! Fetches URLs over one cache, many at once, and writes a line for each.
 
 ghost use Rattle.std.specs.Prelude.{◌≡◌, ◌<◌, ◌∷◌, [], ℕ, List, Option, None, Some, length};
 ghost use Rattle.std.specs.Prelude.{string_bytes};
@@ -7,11 +7,11 @@ ghost use Rattle.exchange.specs.declared.job.Job.{Job};
 ghost use Rattle.run_loop.specs.Taking.{JobResult};
 ghost use Rattle.script_run.specs.Streams.{CanCount, Stream};
 ghost use Rattle.client.specs.Crawling.{CrawlGiven, Crawls, HasFetched, HasStepped, IfEnd, IsAt};
-ghost use Rattle.client.specs.Crawling.{IsOver, crawl_given, hosts_of, jobs_begun, line_fault};
-ghost use Rattle.client.specs.Crawling.{none_begun};
-ghost use Rattle.client.specs.Reading.{TakesOut, queue_shown};
+ghost use Rattle.client.specs.Crawling.{IsOver, crawl_given, hosts_of, jobs_begun, none_begun};
+ghost use Rattle.client.specs.Faults.{IsStepFault, line_fault};
+ghost use Rattle.client.specs.Reading.{TakesBad, queue_shown};
 ghost use Rattle.client.specs.Written.{TookAll, output_shown};
-ghost use Rattle.client.specs.declared.crawl.fault.CrawlFault.TheVariants.{Network as NetworkFailed};
+ghost use Rattle.client.specs.declared.crawl.fault.CrawlFault.TheVariants as faults;
 
 pub(crate) mod crawler;
 pub(crate) mod fault;
@@ -55,6 +55,9 @@ use std::alloc::Global;
 use std::sync::atomic::AtomicBool;
 use window::Window;
 
+/// There is no memory for the URLs.
+const OUT_OF_MEMORY: CrawlFault = CrawlFault::Input(FaultKind::Memory);
+
 /// URLs that are fetched over one cache, many at once.
 #[derive(Drop)]
 pub struct Crawl {
@@ -68,11 +71,11 @@ pub struct Crawl {
     pub resolved: Vec<Resolved>,
 }
 
-/// How a crawl ended.
+/// The end of a crawl.
 #[derive(Clone, Copy, Debug, PartialEq, Eq)]
 pub struct Crawled {
     pub tally: Tally,
-    /// Why it ended before each URL had its line, if it did.
+    /// The fault that ended it before each URL had its line, if there was one.
     pub fault: Option<CrawlFault>,
 }
 
@@ -81,11 +84,9 @@ pub struct Crawled {
 pub(crate) enum Step {
     /// Begins these jobs, and carries out what is in flight.
     Fetch(Vec<Job>),
-    /// Waits for an answer of a look-up.
-    Wait,
-    /// Reads more.
+    /// Reads more: nothing is in flight.
     Read,
-    /// Nothing is left to be done.
+    /// Ends: nothing is left to do.
     End,
 }
 
@@ -101,8 +102,8 @@ impl Crawl {
     }
 
     /// Fetches the URLs, and then those of `input`, if there is a file, and writes a line on
-    /// `output` as each transfer ends: how it ended, and its URL. With `parallel` 1, lines stand in
-    /// the order of the URLs.
+    /// `output` as each transfer ends: its result, and its URL. With `parallel` 1, lines are in the
+    /// order of the URLs. After a failed read of `input` it fetches the URLs that were read before.
     pub fn run<N: Network, R: Source, W: Sink>(
         self,
         network: &N,
@@ -124,7 +125,10 @@ impl Crawl {
         let mut progress = Progress {
             flags: options.flags,
             in_flight: Vec::new(alloc),
-            tally: Tally { told: 0, failed: 0 },
+            tally: Tally {
+                lines: 0,
+                failed: 0,
+            },
             fault: None,
         };
         let mut lines = Output {
@@ -150,16 +154,19 @@ impl Crawl {
 
 // A crawl whose network was not opened.
 fn unopened(fault: NetworkFault) -> Crawled
-    ensures tally { result.tally ≡ record { told = 0; failed = 0 } }
-    ensures fault { result.fault ≡ Some (NetworkFailed fault) }
+    ensures tally { result.tally ≡ record { lines = 0; failed = 0 } }
+    ensures fault { result.fault ≡ Some (faults.Network fault) }
 {
     Crawled {
-        tally: Tally { told: 0, failed: 0 },
+        tally: Tally {
+            lines: 0,
+            failed: 0,
+        },
         fault: Some(CrawlFault::Network(fault)),
     }
 }
 
-// Why a crawl ended before each URL had its line, if it did: first why a line could not be written.
+// Returns the fault of a crawl, if it has one: that of a line comes before the others.
 fn fault_of(
     line: Option<FaultKind>,
     ended: Result<(), CrawlFault>,
@@ -168,6 +175,8 @@ fn fault_of(
     requires other { IfErr ended (λ fault. line_fault (Some fault) ≡ None) }
     ensures line { line_fault result ≡ line }
     ensures whole { result ≡ None → IsOk ended }
+    ensures bad_url { (number : ℕ) → result ≡ Some (faults.BadUrl number)
+        → ended ≡ Err (faults.BadUrl number) }
 {
     match (line, ended, finished) {
         (Some(kind), _, _) => Some(CrawlFault::Output(kind)),
@@ -180,7 +189,7 @@ fn fault_of(
 // Fetches the URLs of a queue, window by window, until none is left, or a line could not be
 // written.
 //
-// Errors: the URLs could not be read, the network failed, or a bad URL ends the crawl.
+// Errors: a read of the URLs failed, the network failed, or a bad URL ends the crawl.
 fn fetch_urls<N: Names, C: Crawler, R: Source, W: Sink>(
     queue: Queue,
     names: &N,
@@ -189,8 +198,8 @@ fn fetch_urls<N: Names, C: Crawler, R: Source, W: Sink>(
     output: &mut Output<'_, W>,
 ) -> Result<(), CrawlFault>
     requires counts { CanCount (R.source input.old) }
-    requires stands { C.stands crawler.old }
-    ensures stands { C.stands crawler.new }
+    requires can_go_on { C.can_go_on crawler.old }
+    ensures can_go_on { C.can_go_on crawler.new }
     ensures same { output.new.output.ghost_name ≡ output.old.output.ghost_name }
     ensures other { IfErr result (λ fault. line_fault (Some fault) ≡ None) }
     ensures fetches { (crawl : CrawlGiven) (first : Stream)
@@ -198,16 +207,12 @@ fn fetch_urls<N: Names, C: Crawler, R: Source, W: Sink>(
         (output_shown output.old.progress.now (W.sink output.old.output.now)
         output.old.output.ghost_name)
         → HasFetched C.crawled crawl first (output_shown output.new.progress.now
-        (W.sink output.new.output.now) output.new.output.ghost_name) (IsOk result) }
+        (W.sink output.new.output.now) output.new.output.ghost_name) result }
 {
     let mut queue = queue;
     for _ in 0..u64::MAX {
         let jobs = match next_step(&mut queue, names, crawler, input, output) {
             Ok(Step::Fetch(jobs)) => jobs,
-            Ok(Step::Wait) => {
-                names.wait();
-                continue;
-            }
             Ok(Step::Read) => continue,
             Ok(Step::End) => return queue.end(),
             Err(fault) => return Err(fault),
@@ -219,7 +224,8 @@ fn fetch_urls<N: Names, C: Crawler, R: Source, W: Sink>(
             return Ok(());
         }
     }
-    Err(CrawlFault::Input(FaultKind::Memory))
+    // not reached in the lifetime of a machine
+    Err(OUT_OF_MEMORY)
 }
 
 // Begins jobs, and carries out what is in flight, until a transfer has ended, or there is other
@@ -232,13 +238,13 @@ fn fetch<N: Names, C: Crawler, R: Source, W: Sink>(
     input: &R,
     output: &mut Output<'_, W>,
 ) -> Result<(), CrawlFault>
-    requires stands { C.stands crawler.old }
-    ensures stands { C.stands crawler.new }
+    requires can_go_on { C.can_go_on crawler.old }
+    ensures can_go_on { C.can_go_on crawler.new }
     ensures takes { TookAll (C.crawled crawler.old crawler.new jobs.now) (output_shown
         output.old.progress.now (W.sink output.old.output.now) output.old.output.ghost_name)
         (output_shown output.new.progress.now (W.sink output.new.output.now)
         output.new.output.ghost_name) }
-    ensures other { IfErr result (λ fault. line_fault (Some fault) ≡ None) }
+    ensures fault { IfErr result IsStepFault }
 {
     let signals = CrawlSignals {
         has_failed: output.has_failed,
@@ -253,7 +259,8 @@ fn fetch<N: Names, C: Crawler, R: Source, W: Sink>(
 }
 
 // Reads URLs ahead, writes the lines of bad ones, and takes those out of the queue whose transfers
-// begin next. Returns the next step.
+// begin next. Returns the next step. If nothing is in flight and a host's addresses are not known,
+// it waits for an answer.
 fn next_step<N: Names, C: Crawler, R: Source, W: Sink>(
     queue: &mut Queue,
     names: &N,
@@ -261,13 +268,13 @@ fn next_step<N: Names, C: Crawler, R: Source, W: Sink>(
     input: &mut R,
     output: &mut Output<'_, W>,
 ) -> Result<Step, CrawlFault>
-    requires counts { CanCount (R.source input.old) }
-    requires stands { C.stands crawler.old }
-    ensures counts_on { OnOk result (CanCount (R.source input.new)) }
-    ensures stands { C.stands crawler.new }
+    requires counts { queue.old.stop ≡ None → CanCount (R.source input.old) }
+    requires can_go_on { C.can_go_on crawler.old }
+    ensures counts_on { OnOk result (queue.new.stop ≡ None → CanCount (R.source input.new)) }
+    ensures can_go_on { C.can_go_on crawler.new }
     ensures same { output.new.output.ghost_name ≡ output.old.output.ghost_name }
-    ensures other { IfErr result (λ fault. line_fault (Some fault) ≡ None) }
-    ensures end { IfOk result (λ step. IfEnd step (queue.new.bad_line ≡ None
+    ensures fault { IfErr result IsStepFault }
+    ensures end { IfOk result (λ step. IfEnd step (queue.new.stop ≡ None
         → output.new.progress.now.fault ≡ None → IsOver (queue_shown queue.new)
         output.new.progress.now.in_flight.items)) }
     ensures steps { (crawl : CrawlGiven) (jobs : List Job) (results : List JobResult)
@@ -288,14 +295,25 @@ fn next_step<N: Names, C: Crawler, R: Source, W: Sink>(
         Ok(jobs) => jobs,
         Err(fault) => return Err(fault),
     };
-    if !output.is_idle() {
-        Ok(Step::Fetch(jobs))
-    } else if queue.awaits_name() {
-        Ok(Step::Wait)
-    } else if queue.is_over() {
-        Ok(Step::End)
+    if output.is_idle() {
+        Ok(idle_step(queue, names))
     } else {
-        Ok(Step::Read)
+        Ok(Step::Fetch(jobs))
+    }
+}
+
+// The next step if nothing is in flight, after a wait for an answer if a URL waits for one.
+fn idle_step<N: Names>(queue: &Queue, names: &N) -> Step
+    ensures none { jobs_begun result ≡ [] }
+    ensures end { IfEnd result (queue.now.stop ≡ None → IsOver (queue_shown queue.now) []) }
+{
+    if queue.awaits_name() {
+        names.wait();
+        Step::Read
+    } else if queue.is_over() {
+        Step::End
+    } else {
+        Step::Read
     }
 }
 
@@ -306,10 +324,10 @@ fn read_urls<N: Names, R: Source, W: Sink>(
     input: &mut R,
     output: &mut Output<'_, W>,
 ) -> Result<(), CrawlFault>
-    requires counts { CanCount (R.source input.old) }
-    ensures counts_on { OnOk result (CanCount (R.source input.new)) }
+    requires counts { queue.old.stop ≡ None → CanCount (R.source input.old) }
+    ensures counts_on { OnOk result (queue.new.stop ≡ None → CanCount (R.source input.new)) }
     ensures same { output.new.output.ghost_name ≡ output.old.output.ghost_name }
-    ensures other { IfErr result (λ fault. line_fault (Some fault) ≡ None) }
+    ensures fault { IfErr result IsStepFault }
     ensures reads { (crawl : CrawlGiven) (jobs : List Job) (results : List JobResult)
         (first : Stream) → IsAt crawl jobs results first (R.source input.old).bytes
         (queue_shown queue.old) (output_shown output.old.progress.now
@@ -319,12 +337,12 @@ fn read_urls<N: Names, R: Source, W: Sink>(
         (W.sink output.new.output.now) output.new.output.ghost_name) result }
 {
     let is_idle = output.is_idle();
-    if let Err(kind) = queue.learn(names) {
-        return Err(CrawlFault::Input(kind));
-    }
-    if let Err(kind) = queue.read_ahead(input, is_idle) {
-        return Err(CrawlFault::Input(kind));
-    }
+    let Ok(()) = queue.learn(names) else {
+        return Err(OUT_OF_MEMORY);
+    };
+    let Ok(()) = queue.read_ahead(input, is_idle) else {
+        return Err(OUT_OF_MEMORY);
+    };
     put_bad_urls(queue, output, is_idle);
     Ok(())
 }
@@ -341,6 +359,7 @@ fn put_bad_urls<W: Sink>(queue: &mut Queue, output: &mut Output<'_, W>, is_idle:
         → IsAt crawl jobs results first source (queue_shown queue.new) (output_shown
         output.new.progress.now (W.sink output.new.output.now)
         output.new.output.ghost_name) }
+    ensures stop { queue.new.stop ≡ queue.old.stop }
 {
     while let Some(url) = next_bad(queue, output, is_idle) {
         output.put_bad(url.as_str());
@@ -350,11 +369,10 @@ fn put_bad_urls<W: Sink>(queue: &mut Queue, output: &mut Output<'_, W>, is_idle:
 // Takes a bad URL out of the queue whose line may be written now.
 fn next_bad<W: Sink>(queue: &mut Queue, output: &Output<'_, W>, is_idle: bool) -> Option<String>
     ensures whole { OnSome result (output.now.progress.now.fault ≡ None) }
-    ensures takes { IfSome result (λ url. TakesOut (string_bytes url ∷ [])
+    ensures takes { IfSome result (λ url. TakesBad is_idle (string_bytes url)
         (queue_shown queue.old) (queue_shown queue.new)) }
-    ensures skips { OnSome result (queue.old.options.flags.skip_bad ≡ true) }
-    ensures idle { OnSome result (queue.old.options.parallel ≡ 1 → is_idle ≡ true) }
     ensures none { IfNone result (queue_shown queue.new ≡ queue_shown queue.old) }
+    ensures stop { queue.new.stop ≡ queue.old.stop }
     ensures fewer { OnSome result
         (length queue.new.queued.items < length queue.old.queued.items) }
 {
@@ -371,10 +389,11 @@ fn begin_urls<N: Names, C: Crawler, W: Sink>(
     crawler: &mut C,
     output: &mut Output<'_, W>,
 ) -> Result<Vec<Job>, CrawlFault>
-    requires stands { C.stands crawler.old }
-    ensures stands { C.stands crawler.new }
+    requires can_go_on { C.can_go_on crawler.old }
+    ensures can_go_on { C.can_go_on crawler.new }
     ensures same { output.new.output.ghost_name ≡ output.old.output.ghost_name }
-    ensures other { IfErr result (λ fault. line_fault (Some fault) ≡ None) }
+    ensures fault { IfErr result IsStepFault }
+    ensures stop { queue.new.stop ≡ queue.old.stop }
     ensures idle { IfOk result (λ jobs. output.new.progress.now.in_flight.items ≡ []
         → jobs.items ≡ []) }
     ensures begins { (crawl : CrawlGiven) (jobs : List Job) (results : List JobResult)
@@ -389,14 +408,14 @@ fn begin_urls<N: Names, C: Crawler, W: Sink>(
     let free = queue.room(output.progress.in_flight.len());
     let Window {
         jobs,
-        urls,
+        transfers,
         waiting: _,
     } = match queue.window(free, names, crawler) {
         Ok(window) => window,
-        Err(kind) => return Err(CrawlFault::Input(kind)),
+        Err(_) => return Err(OUT_OF_MEMORY),
     };
-    match output.begin(urls) {
+    match output.begin(transfers) {
         Ok(()) => Ok(jobs),
-        Err(_) => Err(CrawlFault::Input(FaultKind::Memory)),
+        Err(_) => Err(OUT_OF_MEMORY),
     }
 }

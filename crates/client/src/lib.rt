@@ -1,5 +1,5 @@
-//! Clients: one sends one request after another and keeps its connections; a crawl fetches any
-//! number of URLs over one cache, many at once.
+//! Clients: one sends one request after another and keeps its connections; a crawl fetches many
+//! URLs at once over one cache.
 #![tactic(auto)]
 
 mod client;

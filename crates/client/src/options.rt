@@ -7,7 +7,7 @@ use persistence::Method;
 pub struct CrawlFlags {
     /// Each URL gets a new connection.
     pub fresh: bool,
-    /// A bad URL has a line, and the crawl goes on.
+    /// A bad URL gets a line, and does not end the crawl.
     pub skip_bad: bool,
     /// A status of 400 or above counts as failed.
     pub fail: bool,

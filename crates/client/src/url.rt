@@ -2,13 +2,13 @@
 
 ghost use Rattle.std.specs.Prelude.{IfOk, IfErr};
 ghost use Rattle.conn_key.specs.Target.{GivesTarget};
-ghost use Rattle.client.specs.Urls.{IsWhyNot};
+ghost use Rattle.client.specs.Urls.{IsUrlFault};
 
 use crate::printable::has_unprintable;
 use conn_key::{CountedMemory, KeyError, Target, read_target};
 use std::alloc::Global;
 
-/// Why a URL is not fetched.
+/// A reason not to fetch a URL.
 #[derive(Clone, Copy, Debug, PartialEq, Eq)]
 pub enum UrlFault {
     /// There is no memory for its target.
@@ -28,7 +28,7 @@ pub enum UrlFault {
 /// 2,048 bytes, `Memory` if memory ran out.
 pub fn url_target(alloc: Global, url: &str) -> Result<Target, UrlFault>
     ensures ok { IfOk result (GivesTarget url.now) }
-    ensures err { IfErr result (IsWhyNot url.now) }
+    ensures err { IfErr result (IsUrlFault url.now) }
 {
     if has_unprintable(url) {
         return Err(UrlFault::Unprintable);

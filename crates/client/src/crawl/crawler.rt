@@ -26,37 +26,37 @@ pub trait Crawler: Places {
     ghost use Rattle.run_loop.specs.Taking.{JobResult};
     ghost use Rattle.std.specs.declared.net.socket_addr.SocketAddr.{SocketAddr};
 
-    /// Each transfer in flight can be carried on.
-    ghost stands: { Self → Type 0 };
+    /// Each transfer in flight can continue.
+    ghost can_go_on: { Self → Type 0 };
 
     /// Connections to the host at that place are opened to these addresses, in this order.
     ghost dials: { Self → ℕ → List SocketAddr → Type 0 };
 
-    /// From the one state to the other these jobs were begun, and these results came, the newest
-    /// first, of them and of jobs that were in flight before.
+    /// Between the two states these jobs began, and these results arrived, the newest first, of
+    /// them and of jobs that were in flight before.
     ghost crawled: { Self → Self → List Job → List JobResult → Type 0 };
 
-    /// These results, the newest first, came of what was in flight as it was finished.
+    /// These are the results, the newest first, of the transfers that were in flight at the end.
     ghost finished: { Self → List JobResult → Type 0 };
 
-    /// From now on the host at that place has these addresses.
+    /// Sets the addresses of the host at that place.
     ///
     /// # Errors
     ///
     /// There is no memory for them.
     fn set_host(&mut self, place: u32, addresses: Vec<SocketAddr>) -> Result<(), AllocError>
-        requires { stands self.old }
-        ensures stands { stands self.new }
+        requires { can_go_on self.old }
+        ensures can_go_on { can_go_on self.new }
         ensures dials { OnOk result (dials self.new place addresses.items) };
 
     /// Closes the idle connections that it keeps.
     fn prune(&mut self)
-        requires { stands self.old }
-        ensures { stands self.new };
+        requires { can_go_on self.old }
+        ensures { can_go_on self.new };
 
-    /// Begins jobs, whose transfers have consecutive numbers, carries them out next to those in
-    /// flight, and passes on the results that come. It returns after the event `until`, or once the
-    /// signals say that the crawl is over.
+    /// Begins jobs, whose transfers have consecutive numbers, runs them next to those in flight,
+    /// and passes on the results that arrive. It returns after the event `until`, or once the
+    /// signals report that the crawl is over.
     ///
     /// # Errors
     ///
@@ -69,22 +69,22 @@ pub trait Crawler: Places {
         results: &mut R,
         signals: &S,
     ) -> Result<(), NetworkFault>
-        requires { stands self.old }
-        ensures stands { stands self.new }
+        requires { can_go_on self.old }
+        ensures can_go_on { can_go_on self.new }
         ensures takes { TakesAll (crawled self.old self.new jobs.now) R.took results.old
             results.new };
 
-    /// Carries out what is in flight, passes on the results, and closes the connections. Once the
-    /// signals say that the crawl is over, it cancels what is in flight.
+    /// Runs the transfers in flight to their ends, passes on the results, and closes the
+    /// connections. Once the signals report that the crawl is over, it cancels the transfers.
     ///
     /// # Errors
     ///
-    /// `Poll` if the system's wait for connections failed; what was in flight is cancelled then.
+    /// `Poll` if the system's wait for connections failed; the transfers are cancelled then.
     fn finish<R: Results, S: Signals>(
         self,
         results: &mut R,
         signals: &S,
     ) -> Result<(), NetworkFault>
-        requires { stands self }
+        requires { can_go_on self }
         ensures { TakesAll (finished self) R.took results.old results.new };
 }

@@ -1,9 +1,9 @@
-//! Why a crawl ends before each URL has its line.
+//! Faults of crawls and networks.
 
 use script_text::FaultKind;
 use thiserror::Error;
 
-/// Why a network is not opened, or fails.
+/// A fault of a network.
 #[derive(Clone, Copy, Debug, PartialEq, Eq, Error)]
 pub enum NetworkFault {
     /// There is no memory for it.
@@ -17,10 +17,10 @@ pub enum NetworkFault {
     Descriptors,
 }
 
-/// Why a crawl ends before each URL has its line.
+/// A fault that ends a crawl before each URL has its line.
 #[derive(Clone, Copy, Debug, PartialEq, Eq, Error)]
 pub enum CrawlFault {
-    /// The URLs could not be read, or there is no memory for them.
+    /// A read of the URLs failed, or there is no memory for them.
     #[error("{0}")]
     Input(FaultKind),
     /// A line could not be written, or there is no memory for it.

@@ -1,4 +1,4 @@
-//! Caches and dials whose hosts change while a crawl goes on.
+//! Caches and dials whose hosts change during a crawl.
 
 ghost use Rattle.std.specs.Prelude.{◌≡◌};
 ghost use Rattle.cache.specs.PoolCalls.{home_of};
@@ -41,7 +41,7 @@ pub trait HostDial<W: Wire>: Dial<W> {
     /// Connections to the host at that place are opened to these addresses, in this order.
     ghost dials: { Self → ℕ → List SocketAddr → Type 0 };
 
-    /// From now on the host at that place has these addresses.
+    /// Sets the addresses of the host at that place.
     ///
     /// # Errors
     ///

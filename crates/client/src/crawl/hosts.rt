@@ -2,8 +2,7 @@
 
 ghost use Rattle.std.specs.Prelude.{◌≡◌, ◌≤◌, ◌<◌, ◌&&◌, not, true, false, length, All};
 ghost use Rattle.std.specs.Prelude.{slice_set, IfOk, IfSome, OnOk};
-ghost use Rattle.client.specs.Hosts.{GrowsOrStays, IsNoted, KeepsAwaited, is_awaited};
-ghost use Rattle.client.specs.Placing.{IfAt};
+ghost use Rattle.client.specs.Hosts.{GrowsOrStays, IsAwaited, KeepsAwaited, is_awaited};
 
 use crate::crawl::crawler::Crawler;
 use crate::crawl::in_flight::InFlight;
@@ -17,7 +16,7 @@ use socket::{AddressFault, host_addresses};
 use std::alloc::{AllocError, Global};
 use std::net::SocketAddr;
 
-/// Number of answers that are recorded before transfers go on.
+/// Maximum number of answers that are recorded between events.
 const MOST_ANSWERS: usize = 1_024;
 
 /// The places of hosts in a cache, and which of them have transfers in flight.
@@ -53,7 +52,9 @@ impl<P: Places> Places for Unawaited<'_, P> {
 }
 
 impl Hosts {
-    /// No host has a place yet. `given` are the addresses of hosts that are not looked up.
+    ghost use Rattle.client.specs.Placing.{GivesPlace};
+
+    /// Makes an empty table of hosts. `given` are the addresses of hosts that are not looked up.
     pub(crate) fn new(alloc: Global, given: Vec<Resolved>) -> Hosts {
         Hosts {
             alloc,
@@ -77,12 +78,9 @@ impl Hosts {
         names: &N,
         crawler: &mut C,
     ) -> Result<Placed, AllocError>
-        requires stands { C.stands crawler.old }
-        ensures stands { C.stands crawler.new }
-        ensures keeps { KeepsAwaited self.old.table self.new.table self.old.awaited.items
-            self.new.awaited.items }
-        ensures awaits { IfOk result (IfAt (λ place.
-            is_awaited self.new.awaited.items place ≡ true)) }
+        requires can_go_on { C.can_go_on crawler.old }
+        ensures can_go_on { C.can_go_on crawler.new }
+        ensures gives { GivesPlace self.old self.new result }
     {
         let (host, port) = (target.host.as_str(), target.port);
         let key = format!(in self.alloc; "{host}:{port}")?;
@@ -123,12 +121,9 @@ impl Hosts {
         found: Vec<SocketAddr>,
         crawler: &mut C,
     ) -> Result<Placed, AllocError>
-        requires stands { C.stands crawler.old }
-        ensures stands { C.stands crawler.new }
-        ensures keeps { KeepsAwaited self.old.table self.new.table self.old.awaited.items
-            self.new.awaited.items }
-        ensures awaits { IfOk result (IfAt (λ place.
-            is_awaited self.new.awaited.items place ≡ true)) }
+        requires can_go_on { C.can_go_on crawler.old }
+        ensures can_go_on { C.can_go_on crawler.new }
+        ensures gives { GivesPlace self.old self.new result }
     {
         let Some(place) = self.unused_place(key, crawler)? else {
             return Ok(Placed::Full);
@@ -139,15 +134,15 @@ impl Hosts {
         Ok(Placed::At(place))
     }
 
-    // Returns the place that the host of that key is given, if one is unused, or is so once the idle
-    // connections are closed.
+    // Returns the place that the host of that key is given, if one is unused, or becomes so as the
+    // idle connections are closed.
     fn unused_place<C: Crawler>(
         &mut self,
         key: &str,
         crawler: &mut C,
     ) -> Result<Option<u32>, AllocError>
-        requires stands { C.stands crawler.old }
-        ensures stands { C.stands crawler.new }
+        requires can_go_on { C.can_go_on crawler.old }
+        ensures can_go_on { C.can_go_on crawler.new }
         ensures keeps { KeepsAwaited self.old.table self.new.table self.old.awaited.items
             self.new.awaited.items }
         ensures there { IfOk result (λ found. IfSome found (λ place.
@@ -179,7 +174,7 @@ impl Hosts {
         }
     }
 
-    // Records whether the system does not know the host at that place.
+    // Records whether the host at that place is unknown to the system.
     fn note_unknown(&mut self, place: u32, is_unknown: bool) -> Result<(), AllocError>
         ensures table { self.new.table ≡ self.old.table }
         ensures awaited { self.new.awaited.items ≡ self.old.awaited.items }
@@ -191,7 +186,7 @@ impl Hosts {
         Ok(())
     }
 
-    // Makes room for what is recorded of the next place that is given.
+    // Makes room for the record of the next place.
     fn add_awaited(&mut self) -> Result<(), AllocError>
         ensures table { self.new.table ≡ self.old.table }
         ensures awaited { GrowsOrStays self.old.awaited.items self.new.awaited.items }
@@ -219,7 +214,7 @@ impl Hosts {
     /// Records that these transfers are in flight, and no others.
     pub(crate) fn settle(&mut self, in_flight: &[InFlight])
         ensures table { self.new.table ≡ self.old.table }
-        ensures noted { All (IsNoted self.new.awaited.items) in_flight.now }
+        ensures awaited_all { All (IsAwaited self.new.awaited.items) in_flight.now }
     {
         self.awaited.as_mut_slice().fill(false);
         for one in in_flight {

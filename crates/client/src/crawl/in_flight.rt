@@ -17,6 +17,6 @@ pub(crate) struct InFlight {
 /// greatest `u64`.
 #[derive(Clone, Copy, Debug, PartialEq, Eq)]
 pub struct Tally {
-    pub told: u64,
+    pub lines: u64,
     pub failed: u64,
 }

@@ -8,14 +8,14 @@ use std::fmt;
 /// The outcome of a URL.
 #[derive(Clone, Copy, Debug)]
 pub(crate) enum Outcome {
-    /// Its transfer ended so.
+    /// Its transfer has this result.
     Ended {
         done: Done,
         span: Span,
         /// True if the system does not know its host.
         is_unknown: bool,
     },
-    /// It is bad.
+    /// The URL is bad.
     BadUrl,
 }
 
@@ -56,7 +56,7 @@ impl fmt::Display for JsonLine<'_> {
     }
 }
 
-// Writes a response.
+// Writes the members of a response.
 fn write_answer<W: fmt::Write>(f: &mut fmt::Formatter<W>, answer: Answer) -> fmt::Result {
     let (status, length) = (answer.status, answer.body_len);
     let (reused, retried) = (answer.reused, answer.retried);
@@ -65,7 +65,7 @@ fn write_answer<W: fmt::Write>(f: &mut fmt::Formatter<W>, answer: Answer) -> fmt
     write!(f, "\"fault\": null, ")
 }
 
-// Writes that there is no response, and whether the request was tried once more.
+// Writes the members of a transfer without a response.
 fn write_fault<W: fmt::Write>(
     f: &mut fmt::Formatter<W>,
     fault: Fault,
@@ -76,7 +76,7 @@ fn write_fault<W: fmt::Write>(
     write!(f, "\"retried\": {retried}, \"fault\": \"{name}\", ")
 }
 
-// Writes why the connection failed, if the system said so.
+// Writes the reason of a failed connection, if the system gave one.
 fn write_reason<W: fmt::Write>(
     f: &mut fmt::Formatter<W>,
     done: Done,
@@ -90,7 +90,7 @@ fn write_reason<W: fmt::Write>(
     }
 }
 
-// Writes the moments of the transfer, from its beginning on.
+// Writes the phases of the transfer, in microseconds after its beginning.
 fn write_moments<W: fmt::Write>(f: &mut fmt::Formatter<W>, span: Span) -> fmt::Result {
     let (began, phases) = (span.began, span.phases);
     write_moment(f, "waited_us", phases.leased, began)?;
@@ -100,7 +100,7 @@ fn write_moments<W: fmt::Write>(f: &mut fmt::Formatter<W>, span: Span) -> fmt::R
     write!(f, "\"whole_us\": {whole}}}")
 }
 
-// Writes how long after the transfer's beginning a moment was, if there was one.
+// Writes a moment, in microseconds after the beginning, or null.
 fn write_moment<W: fmt::Write>(
     f: &mut fmt::Formatter<W>,
     name: &str,
@@ -116,7 +116,7 @@ fn write_moment<W: fmt::Write>(
     }
 }
 
-/// A text in quotation marks (RFC 8259, section 7).
+/// A JSON string (RFC 8259, section 7).
 #[derive(Drop)]
 pub(crate) struct JsonText<'a>(pub(crate) &'a str);
 
@@ -130,7 +130,7 @@ impl fmt::Display for JsonText<'_> {
     }
 }
 
-// Writes a character as it stands in quotation marks.
+// Writes a character of a string.
 fn write_escaped<W: fmt::Write>(f: &mut fmt::Formatter<W>, c: char) -> fmt::Result {
     let code = u32::from(c);
     match c {

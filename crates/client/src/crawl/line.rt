@@ -59,7 +59,7 @@ fn reuse_word(reused: bool) -> &'static str
     if reused { "reused" } else { "new" }
 }
 
-/// Returns the word for a request that was sent once more, or nothing.
+/// Returns the word for a request that was sent again, or nothing.
 fn retry_word(retried: bool) -> &'static str
     ensures { result.now ≡ retry_word retried }
 {

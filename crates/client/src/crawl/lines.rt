@@ -1,21 +1,21 @@
-//! The lines of a file of URLs, as far as they have been read.
+//! Lines of a file of URLs.
 
 ghost use Rattle.std.specs.Prelude.{◌≡◌, ◌<◌, [], true, Some, length, take, IfOk, OnOk};
 ghost use Rattle.std.specs.Str.Lines.{strip_carriage_return};
 ghost use Rattle.script_run.specs.Streams.{CanCount};
 ghost use Rattle.client.specs.FileLines.{HasNoLine, IsNextLine, NeedsMore, ReadsFile};
-ghost use Rattle.client.specs.FileLines.{is_passed, lines_shown, nothing_read, urls_on};
+ghost use Rattle.client.specs.FileLines.{is_skipped, lines_shown, nothing_read, urls_on};
 ghost use Rattle.client.specs.FileLines.{urls_returned};
 
 use script_run::Source;
-use script_text::{FaultKind, place_of};
+use script_text::place_of;
 use std::alloc::{AllocError, Global};
 use std::str;
 
 /// Maximum number of bytes of a line that is a URL.
 const MOST_BYTES: usize = 2_048;
 
-/// Number of bytes that are read at a time.
+/// Number of bytes of a read.
 const PIECE: usize = 65_536;
 
 /// The next line of a file of URLs.
@@ -24,11 +24,11 @@ pub(crate) enum Line {
     Url(String, u64),
     /// A line that is no URL, with its number: it is too long, or not UTF-8.
     Bad(String, u64),
-    /// A line that is passed over: it is empty, or begins with `#`.
-    Passed,
-    /// Nothing yet: more is to be read.
+    /// A line that is skipped: it is empty, or begins with `#`.
+    Skipped,
+    /// Not read yet.
     Unread,
-    /// Nothing more.
+    /// The end of the file.
     Over,
 }
 
@@ -37,9 +37,9 @@ pub(crate) enum Line {
 pub(crate) struct UrlLines {
     // Bytes that were read and not returned yet.
     bytes: Vec<u8>,
-    // Where the next line begins there.
+    // Place of the next line in `bytes`.
     from: usize,
-    // Memory that is read into, once there is a read.
+    // Buffer of reads, made by the first read.
     piece: Vec<u8>,
     is_at_end: bool,
     // Number of lines that were returned.
@@ -96,47 +96,46 @@ impl UrlLines {
         Ok(line)
     }
 
-    // What was read, and not returned yet.
+    // The bytes that were read, and not returned yet.
     fn pending(&self) -> &[u8]
         ensures { result.now ≡ (lines_shown self.now).pending }
     {
         self.bytes.get(self.from..).unwrap_or(&[])
     }
 
-    /// Reads more, if no line is there.
+    /// Reads more, if no line is there. Returns false if the read failed.
     ///
     /// # Errors
     ///
-    /// `Read` if a read failed, `Memory` if there is no memory for what was read.
+    /// There is no memory for what was read.
     pub(crate) fn read_on<R: Source>(
         &mut self,
         alloc: Global,
         input: &mut R,
-    ) -> Result<(), FaultKind>
+    ) -> Result<bool, AllocError>
         requires counts { CanCount (R.source input.old) }
         requires no_line { NeedsMore (lines_shown self.old) }
-        ensures counts_on { OnOk result (CanCount (R.source input.new)) }
+        ensures counts_on { IfOk result (λ was_read.
+            was_read ≡ true → CanCount (R.source input.new)) }
         ensures reads { OnOk result (ReadsFile [] (lines_shown self.old) (lines_shown self.new)
             (R.source input.old).bytes (R.source input.new).bytes) }
     {
-        self.drop_given();
+        self.drop_returned();
         self.make_piece(alloc)?;
         let Ok(count) = input.read_some(&mut self.piece) else {
-            return Err(FaultKind::Read);
+            return Ok(false);
         };
         if count == 0 {
             self.is_at_end = true;
-            return Ok(());
+            return Ok(true);
         }
         let read = &self.piece[..count];
-        match self.bytes.extend_from_slice(read) {
-            Ok(()) => Ok(()),
-            Err(_) => Err(FaultKind::Memory),
-        }
+        self.bytes.extend_from_slice(read)?;
+        Ok(true)
     }
 
-    // Makes the memory that is read into, if there is none yet.
-    fn make_piece(&mut self, alloc: Global) -> Result<(), FaultKind>
+    // Makes the buffer of reads, if there is none.
+    fn make_piece(&mut self, alloc: Global) -> Result<(), AllocError>
         ensures piece { OnOk result (0 < length self.new.piece.items) }
         ensures bytes { self.new.bytes.items ≡ self.old.bytes.items }
         ensures from { self.new.from ≡ self.old.from }
@@ -148,8 +147,9 @@ impl UrlLines {
         Ok(())
     }
 
-    // Drops what was returned. Of a line that is too long, a front stays that is too long.
-    fn drop_given(&mut self)
+    // Drops the bytes of returned lines. Of a line that is too long, it keeps a front that is too
+    // long.
+    fn drop_returned(&mut self)
         ensures bytes { self.new.bytes.items ≡ take 2050 (lines_shown self.old).pending }
         ensures from { self.new.from ≡ 0 }
         ensures is_at_end { self.new.is_at_end ≡ self.old.is_at_end }
@@ -161,14 +161,11 @@ impl UrlLines {
     }
 }
 
-// Memory that is read into.
-fn piece(alloc: Global) -> Result<Vec<u8>, FaultKind>
+// Makes the buffer of reads.
+fn piece(alloc: Global) -> Result<Vec<u8>, AllocError>
     ensures { IfOk result (λ made. 0 < length made.items) }
 {
-    match vec![in alloc; 0; PIECE] {
-        Ok(piece) => Ok(piece),
-        Err(_) => Err(FaultKind::Memory),
-    }
+    vec![in alloc; 0; PIECE]
 }
 
 // Returns the kind of a line without its line feed.
@@ -176,8 +173,8 @@ fn line_of(alloc: Global, line: &[u8], number: u64) -> Result<Line, AllocError>
     ensures { IfOk result (λ one. urls_returned one ≡ Some (urls_on line.now)) }
 {
     let line = without_return(line);
-    if is_passed(line) {
-        return Ok(Line::Passed);
+    if is_skipped(line) {
+        return Ok(Line::Skipped);
     }
     match str::from_utf8(line) {
         Ok(url) if line.len() <= MOST_BYTES => {
@@ -198,8 +195,8 @@ fn without_return(line: &[u8]) -> &[u8]
 }
 
 // True if a line is empty, or begins with `#`.
-fn is_passed(line: &[u8]) -> bool
-    ensures { result ≡ is_passed line.now }
+fn is_skipped(line: &[u8]) -> bool
+    ensures { result ≡ is_skipped line.now }
 {
     match line {
         [] => true,
@@ -207,7 +204,7 @@ fn is_passed(line: &[u8]) -> bool
     }
 }
 
-// The bytes of a line that a URL may have.
+// The first bytes of a line, as many as a URL may have.
 fn front(line: &[u8]) -> &[u8]
     ensures { result.now ≡ take 2048 line.now }
 {

@@ -1,4 +1,4 @@
-//! Look-ups of names on other threads, while a crawl goes on.
+//! Look-ups of names on other threads, during a crawl.
 
 ghost use Rattle.std.specs.Prelude.{◌≡◌, ◌+◌, ◌≤◌, ◌<◌, ◌++◌, ◌∷◌, [], false, OnOk};
 ghost use Rattle.std.specs.Prelude.{string_bytes};
@@ -17,15 +17,15 @@ const MOST_WAIT: u64 = 10;
 
 /// A queue of look-ups, which any number of threads carry out: each calls [`LookUps::serve`].
 ///
-/// An answer has the name that was asked, and addresses that the resolver returned for that name,
-/// or none. A look-up that runs out of memory has the answer of an unknown host.
+/// An answer has a name that was added, and the addresses that the resolver returned for it, or
+/// none. A look-up that runs out of memory has the answer of an unknown host.
 #[derive(Drop)]
 pub struct LookUps<'a, H: Wait, R: Resolver> {
     waits: &'a H,
     alloc: Global,
     state: Mutex<State<R>>,
     // Notified when a name is added, and when the queue is closed.
-    asked: Condvar,
+    added: Condvar,
     // Notified when an answer is stored.
     answered: Condvar,
 }
@@ -34,7 +34,7 @@ pub struct LookUps<'a, H: Wait, R: Resolver> {
 #[derive(Drop)]
 struct State<R: Resolver> {
     // Names that no thread has taken yet.
-    asked: VecDeque<String>,
+    names: VecDeque<String>,
     answers: VecDeque<Found<R>>,
     // Number of names whose answers are not stored yet. There is room for each of these.
     pending: usize,
@@ -53,12 +53,12 @@ struct Found<R: Resolver> {
 impl<R: Resolver> State<R> {
     // A queue without names.
     fn new(alloc: Global) -> State<R>
-        ensures none { result.asked.items ≡ [] }
+        ensures none { result.names.items ≡ [] }
         ensures pending { result.pending ≡ 0 }
         ensures open { result.is_closed ≡ false }
     {
         State {
-            asked: VecDeque::new(alloc),
+            names: VecDeque::new(alloc),
             answers: VecDeque::new(alloc),
             pending: 0,
             is_closed: false,
@@ -69,14 +69,14 @@ impl<R: Resolver> State<R> {
     //
     // Errors: there is no memory for them.
     fn ask(&mut self, name: String) -> Result<(), AllocError>
-        ensures asks { OnOk result (self.new.asked.items ≡ self.old.asked.items ++ name ∷ []) }
+        ensures adds { OnOk result (self.new.names.items ≡ self.old.names.items ++ name ∷ []) }
         ensures pending { OnOk result (self.new.pending ≡ self.old.pending + 1) }
         ensures closed { self.new.is_closed ≡ self.old.is_closed }
     {
-        self.asked.reserve(1)?;
+        self.names.reserve(1)?;
         self.answers.reserve(self.pending + 1)?;
         self.pending += 1;
-        self.asked.push_back_reserved(name);
+        self.names.push_back_reserved(name);
         Ok(())
     }
 
@@ -115,7 +115,7 @@ impl<'a, H: Wait, R: Resolver> LookUps<'a, H, R> {
             waits,
             alloc,
             state: Mutex::new(State::new(alloc)),
-            asked: Condvar::new(),
+            added: Condvar::new(),
             answered: Condvar::new(),
         }
     }
@@ -134,19 +134,19 @@ impl<'a, H: Wait, R: Resolver> LookUps<'a, H, R> {
     /// out. Names that no thread has taken are not looked up.
     pub fn close(&self) {
         self.state.lock(self.waits).is_closed = true;
-        self.asked.notify_all();
+        self.added.notify_all();
     }
 
     // Waits for a name, and takes it. Returns none once the queue is closed.
     fn next_name(&self) -> Option<String> {
         let state = self.state.lock(self.waits);
-        let mut state = self.asked.wait_while(self.waits, state, |state| {
-            state.asked.is_empty() && !state.is_closed
+        let mut state = self.added.wait_while(self.waits, state, |state| {
+            state.names.is_empty() && !state.is_closed
         });
         if state.is_closed {
             return None;
         }
-        state.asked.pop_front()
+        state.names.pop_front()
     }
 
     // Stores an answer, and wakes up the caller that waits for it.
@@ -164,7 +164,7 @@ impl<H: Wait, R: Resolver> Names for LookUps<'_, H, R> {
     fn ask(&self, name: &str) -> Result<(), AllocError> {
         let name = name.to_string(self.alloc)?;
         self.state.lock(self.waits).ask(name)?;
-        self.asked.notify_one();
+        self.added.notify_one();
         Ok(())
     }
 

@@ -1,4 +1,4 @@
-//! Carries out the jobs of a crawl in a loop, over any cache, dial and clock.
+//! Runs the jobs of a crawl in a loop, over any cache, dial and clock.
 
 ghost use Rattle.std.specs.Prelude.{◌≡◌, [], IfOk};
 
@@ -44,11 +44,11 @@ pub struct LoopCrawler<
     run: RunLoop<W>,
     // The time limit of a transfer, in microseconds.
     limit: u64,
-    // Number of rings for news from outside.
-    rings: u64,
+    // Number of wake-ups for news from outside.
+    wakeups: u64,
     // Number of jobs since the logs were cut.
     uncut: usize,
-    // A job that is never carried out.
+    // A job that never runs.
     no_job: Job,
 }
 
@@ -78,7 +78,7 @@ impl<
         clock: C,
         task: Solo,
     ) -> Result<Self, AllocError>
-        ensures stands { IfOk result (λ crawler. CanGoOn (world_of W.untouched W.happened
+        ensures can_go_on { IfOk result (λ crawler. CanGoOn (world_of W.untouched W.happened
             (C.tells crawler.clock)) (C.tells_micros crawler.clock) (K.home crawler.cache)
             crawler.run.slab.slots crawler.run.begins.moments.items) }
     {
@@ -91,7 +91,7 @@ impl<
             clock,
             run,
             limit: (options.timeout as u64).saturating_mul(MICROS),
-            rings: 0,
+            wakeups: 0,
             uncut: 0,
             no_job: no_job(alloc),
         })
@@ -131,7 +131,7 @@ fn cut_if_due<W: Wire, K: HostCache<W>>(cache: &mut K, uncut: usize) -> usize
     0
 }
 
-// The fault of a run that ended so, if a fault ended it.
+// Returns the fault of a run, if a fault ended it.
 fn ended_by(end: RunEnd) -> Result<(), NetworkFault> {
     if end.is_fault() {
         Err(NetworkFault::Poll)
@@ -154,17 +154,19 @@ impl<H: Wait, W: Wire, K: HostCache<W> + Drop, D: HostDial<W> + Drop, C: MicroCl
     ghost use Rattle.exchange.specs.Worlds.{world_of};
     ghost use Rattle.client.specs.Alone.{CanGoOn, RanAlone};
 
-    ghost stands = { λ crawler. CanGoOn (world_of W.untouched W.happened (C.tells crawler.clock))
+    ghost can_go_on = { λ crawler. CanGoOn (world_of W.untouched W.happened (C.tells crawler.clock))
         (C.tells_micros crawler.clock) (K.home crawler.cache) crawler.run.slab.slots
         crawler.run.begins.moments.items };
 
     ghost dials = { λ crawler place addresses. D.dials crawler.dial place addresses };
 
-    ghost crawled = { λ old new jobs told. RanAlone K.did (world_of W.untouched W.happened
-        (C.tells old.clock)) old.no_job old.cache old.run.slab.slots new.run.slab.slots jobs told };
+    ghost crawled = { λ old new jobs results. RanAlone K.did (world_of W.untouched W.happened
+        (C.tells old.clock)) old.no_job old.cache old.run.slab.slots new.run.slab.slots jobs
+        results };
 
-    ghost finished = { λ crawler told. RanAlone K.did (world_of W.untouched W.happened
-        (C.tells crawler.clock)) crawler.no_job crawler.cache crawler.run.slab.slots [] [] told };
+    ghost finished = { λ crawler results. RanAlone K.did (world_of W.untouched W.happened
+        (C.tells crawler.clock)) crawler.no_job crawler.cache crawler.run.slab.slots [] []
+        results };
 
     fn set_host(&mut self, place: u32, addresses: Vec<SocketAddr>) -> Result<(), AllocError> {
         self.dial.set_host(self.alloc, place, addresses)
@@ -185,12 +187,12 @@ impl<H: Wait, W: Wire, K: HostCache<W> + Drop, D: HostDial<W> + Drop, C: MicroCl
         let Some(mut drawn) = WindowJobs::new(self.alloc, jobs, &self.no_job) else {
             return Err(NetworkFault::Memory);
         };
-        let has_rung = AtomicBool::new(false);
+        let has_woken = AtomicBool::new(false);
         let timer = CrawlTimer {
             clock: &self.clock,
             limit: self.limit,
-            rings: self.rings,
-            has_rung: &has_rung,
+            wakeups: self.wakeups,
+            has_woken: &has_woken,
             signals,
         };
         let end = self.run.run_on(
@@ -202,8 +204,8 @@ impl<H: Wait, W: Wire, K: HostCache<W> + Drop, D: HostDial<W> + Drop, C: MicroCl
             results,
             &timer,
         );
-        let more = has_rung.load(Ordering::SeqCst) as u64;
-        self.rings = self.rings.saturating_add(more);
+        let more = has_woken.load(Ordering::SeqCst) as u64;
+        self.wakeups = self.wakeups.saturating_add(more);
         let uncut = self.uncut.saturating_add(jobs.len());
         self.uncut = cut_if_due::<W, K>(&mut self.cache, uncut);
         ended_by(end)
@@ -222,17 +224,17 @@ impl<H: Wait, W: Wire, K: HostCache<W> + Drop, D: HostDial<W> + Drop, C: MicroCl
             clock,
             run,
             limit,
-            rings,
+            wakeups,
             uncut: _,
             no_job,
         } = self;
         let mut drawn = WindowJobs::none(alloc, &no_job);
-        let has_rung = AtomicBool::new(false);
+        let has_woken = AtomicBool::new(false);
         let timer = CrawlTimer {
             clock: &clock,
             limit,
-            rings,
-            has_rung: &has_rung,
+            wakeups,
+            has_woken: &has_woken,
             signals,
         };
         let end = run.finish(waits, &mut cache, &mut dial, &mut drawn, results, &timer);

@@ -1,4 +1,4 @@
-//! The names of hosts, each of which is looked up once while transfers go on.
+//! Names of hosts, each of which is looked up once.
 
 use site_table::{Places, SiteTable};
 use std::alloc::{AllocError, Global};
@@ -32,7 +32,7 @@ pub struct Answer {
     pub found: Vec<SocketAddr>,
 }
 
-/// Look-ups that go on while their caller does other work.
+/// Look-ups in the background.
 pub trait Names {
     ghost use Rattle.std.specs.Prelude.{ℕ, List, IfSome, string_bytes};
     ghost use Rattle.std.specs.declared.net.socket_addr.SocketAddr.{SocketAddr};

@@ -27,7 +27,7 @@ pub trait Network {
         options: CrawlOptions,
         hosts: u32,
     ) -> Result<Self::Crawler, NetworkFault>
-        ensures { IfOk result Self.Crawler.stands };
+        ensures { IfOk result Self.Crawler.can_go_on };
 
     /// The look-ups of names.
     fn names(&self) -> &Self::Names;

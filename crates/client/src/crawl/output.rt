@@ -22,8 +22,8 @@ use std::alloc::{AllocError, Global};
 use std::sync::atomic::{AtomicBool, Ordering};
 
 /// Writes the line of each transfer of a crawl as it ends. After a line that cannot be written
-/// whole, no more are written. It has references alone, so that what they lead to is known once it
-/// is dropped.
+/// whole, it writes no more. It has references only, so that contracts can refer to their targets
+/// after it is dropped.
 #[derive(Drop)]
 pub(crate) struct Output<'w, W: Sink> {
     pub(crate) alloc: Global,
@@ -80,7 +80,7 @@ impl<W: Sink> Output<'_, W> {
         self.progress.in_flight.is_empty()
     }
 
-    /// Transfers of these URLs begin.
+    /// Records that transfers of these URLs begin.
     ///
     /// # Errors
     ///
@@ -139,7 +139,7 @@ impl<W: Sink> Output<'_, W> {
         }
     }
 
-    // Ends the crawl, since a line could not be written.
+    // Ends the crawl with a fault of a line.
     fn fail(&mut self, kind: FaultKind)
         ensures fault { self.new.progress.now.fault ≡ Some kind }
         ensures same { KeepsProgress self.old.progress.now self.new.progress.now }
@@ -160,15 +160,15 @@ impl<W: Sink> Output<'_, W> {
         ensures output { self.new.output.now ≡ self.old.output.now }
         ensures name { self.new.output.ghost_name ≡ self.old.output.ghost_name }
     {
-        let Tally { told, failed } = self.progress.tally;
+        let Tally { lines, failed } = self.progress.tally;
         self.progress.tally = Tally {
-            told: told.saturating_add(1),
+            lines: lines.saturating_add(1),
             failed: failed.saturating_add(has_failed as u64),
         };
     }
 }
 
-// True if a transfer that ended so has failed.
+// True if a transfer with this result has failed.
 fn has_failed(flags: CrawlFlags, done: Done) -> bool
     ensures { result ≡ done_failed flags done }
 {
@@ -204,8 +204,7 @@ fn transfer_line(
     line_text(alloc, url, fetched_as(span.retried, done))
 }
 
-// How a job was fetched that ended so. A response itself says whether its request was sent once
-// more.
+// Returns the result of a job. A response records whether its request was sent again.
 fn fetched_as(retried: bool, done: Done) -> Fetched
     ensures { result ≡ fetched_as retried done }
 {

@@ -10,6 +10,6 @@ pub(crate) struct Progress {
     pub(crate) flags: CrawlFlags,
     pub(crate) in_flight: Vec<InFlight>,
     pub(crate) tally: Tally,
-    /// Why a line could not be written, if one could not.
+    /// The fault of a line that could not be written.
     pub(crate) fault: Option<FaultKind>,
 }

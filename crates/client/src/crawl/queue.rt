@@ -1,20 +1,7 @@
 //! The URLs of a crawl that are not in flight yet.
 
-ghost use Rattle.std.specs.Prelude.{◌≡◌, ◌≢◌, ◌++◌, ◌∷◌, ◌-◌, ◌<◌, ◌≤◌, [], true, None, Some, All};
-ghost use Rattle.std.specs.Prelude.{ℕ, List, Option};
-ghost use Rattle.std.specs.List.{AllZip};
-ghost use Rattle.std.specs.Prelude.{length, option_to_list, string_bytes};
-ghost use Rattle.std.specs.Prelude.{IfErr, IfNone, IfOk, IfSome, OnOk, OnSome};
-ghost use Rattle.script_run.specs.Streams.{CanCount};
-ghost use Rattle.client.specs.Crawling.{crawl_given, line_fault, queue_given};
-ghost use Rattle.client.specs.FileLines.{HasNoLine, NeedsMore};
-ghost use Rattle.client.specs.Hosts.{AreAwaited, IsNoted, KeepsAwaited, is_awaited};
-ghost use Rattle.client.specs.Reading.{AddsUrl, Reads, ReadsOn, TakesOut, queue_shown};
-ghost use Rattle.client.specs.Reading.{url_queued};
-ghost use Rattle.client.specs.Sorting.{KeepsAll, KeepsHosts, KeepsOthers, KeepsQueue, Sorts};
-ghost use Rattle.client.specs.Steps.{IsJobOf, want_of};
-ghost use Rattle.client.specs.Written.{urls_in_flight};
-ghost use Rattle.client.specs.declared.options.UrlFile.TheVariants.{None as NoFile};
+ghost use Rattle.std.specs.Prelude.{◌≡◌, true};
+ghost use Rattle.client.specs.Faults.{CanEnd, can_end};
 
 use crate::crawl::Crawl;
 use crate::crawl::crawler::Crawler;
@@ -29,18 +16,19 @@ use crate::crawl::route::Route;
 use crate::crawl::window::Window;
 use crate::options::{CrawlOptions, UrlFile};
 use crate::url::{UrlFault, url_target};
+use conn_key::Target;
 use conn_log::Want;
 use exchange::Job;
 use run_loop::Until;
 use script_run::Source;
 use script_text::FaultKind;
-use std::alloc::Global;
+use std::alloc::{AllocError, Global};
 use std::collections::VecDeque;
 
-/// Number of URLs that are read ahead.
+/// Maximum number of URLs that are read ahead.
 const MOST_AHEAD: usize = 256;
 
-/// Number of lines that are read before transfers go on.
+/// Maximum number of lines that are read between events.
 const MOST_LINES: usize = 4_096;
 
 /// The URLs of a crawl that are not in flight yet.
@@ -52,18 +40,37 @@ pub(crate) struct Queue {
     // The URLs among the words that were not read yet; the last is next.
     urls: Vec<String>,
     lines: UrlLines,
-    // The line of the bad URL that ends the crawl, if there is one; 0 is no line.
-    bad_line: Option<u64>,
+    // The fault that ends the crawl once nothing is in flight: no more is read.
+    stop: Option<CrawlFault>,
     // The URLs that were read, in order.
     queued: VecDeque<Queued>,
-    // The number of the next job.
+    // Number of the next job.
     number: u64,
     hosts: Hosts,
     // A queued URL waits for the addresses of its host.
     awaits_name: bool,
+    ghost ends: { can_end options stop ≡ true },
 }
 
 impl Queue {
+    ghost use Rattle.std.specs.Prelude.{◌≡◌, ◌≢◌, ◌++◌, ◌∷◌, ◌-◌, ◌<◌, ◌≤◌, [], true, None, All};
+    ghost use Rattle.std.specs.Prelude.{ℕ, List, Option};
+    ghost use Rattle.std.specs.List.{AllZip};
+    ghost use Rattle.std.specs.Prelude.{length, option_to_list, string_bytes};
+    ghost use Rattle.std.specs.Prelude.{IfErr, IfNone, IfOk, IfSome, OnOk, OnSome};
+    ghost use Rattle.script_run.specs.Streams.{CanCount};
+    ghost use Rattle.client.specs.Crawling.{crawl_given, queue_given};
+    ghost use Rattle.client.specs.FileLines.{HasNoLine, NeedsMore};
+    ghost use Rattle.client.specs.Hosts.{AreAwaited, IsAwaited, KeepsAwaited, is_awaited};
+    ghost use Rattle.client.specs.Reading.{AddsUrl, Reads, ReadsOn, TakesBad, TakesOut};
+    ghost use Rattle.client.specs.Reading.{queue_shown, url_queued};
+    ghost use Rattle.client.specs.Windows.{Begins, BeginsOrWaits, KeepsAll, KeepsHosts};
+    ghost use Rattle.client.specs.Windows.{KeepsOthers, KeepsQueue};
+    ghost use Rattle.client.specs.Steps.{IsJobOf, want_of};
+    ghost use Rattle.conn_key.specs.Target.{GivesTarget};
+    ghost use Rattle.client.specs.Written.{urls_in_flight};
+    ghost use Rattle.client.specs.declared.options.UrlFile.TheVariants.{None as NoFile};
+
     /// Makes the queue of a crawl, of which nothing was read yet.
     pub(crate) fn new(crawl: Crawl) -> Queue
         ensures shown { (bytes : Option (List ℕ))
@@ -84,7 +91,7 @@ impl Queue {
             file,
             urls,
             lines: UrlLines::new(alloc),
-            bad_line: None,
+            stop: None,
             queued: VecDeque::new(alloc),
             number: 0,
             hosts: Hosts::new(alloc, resolved),
@@ -95,12 +102,12 @@ impl Queue {
     /// True if no URL is left to be read or begun, once nothing is in flight and no URL waits for
     /// addresses.
     pub(crate) fn is_over(&self) -> bool
-        ensures words { result ≡ true → self.now.bad_line ≡ None
+        ensures words { result ≡ true → self.now.stop ≡ None
             → ((queue_shown self.now).left ≡ []) × ((queue_shown self.now).queued ≡ []) }
-        ensures lines { result ≡ true → self.now.bad_line ≡ None
+        ensures lines { result ≡ true → self.now.stop ≡ None
             → self.now.file ≢ NoFile → HasNoLine (queue_shown self.now).lines }
     {
-        if self.bad_line.is_some() {
+        if self.stop.is_some() {
             return true;
         }
         self.queued.is_empty() && self.is_read()
@@ -115,17 +122,17 @@ impl Queue {
         self.urls.is_empty() && (self.file == UrlFile::None || self.lines.is_over())
     }
 
-    /// How a crawl ends whose queue is over.
+    /// Returns the fault that ends a crawl whose queue is over, if there is one.
     ///
     /// # Errors
     ///
-    /// `BadUrl` if a bad URL ends it.
+    /// `BadUrl` if a URL is bad, and bad URLs are not skipped, `Input` if a read failed.
     pub(crate) fn end(&self) -> Result<(), CrawlFault>
-        ensures whole { OnOk result (self.now.bad_line ≡ None) }
-        ensures other { IfErr result (λ fault. line_fault (Some fault) ≡ None) }
+        ensures whole { OnOk result (self.now.stop ≡ None) }
+        ensures fault { IfErr result (CanEnd self.now.options) }
     {
-        match self.bad_line {
-            Some(line) => Err(CrawlFault::BadUrl(line)),
+        match self.stop {
+            Some(fault) => Err(fault),
             None => Ok(()),
         }
     }
@@ -135,7 +142,7 @@ impl Queue {
         if !self.queued.is_empty() {
             return Until::Freed;
         }
-        if self.bad_line.is_some() || self.is_read() {
+        if self.stop.is_some() || self.is_read() {
             return Until::Ended;
         }
         if self.reads_at_once() {
@@ -153,28 +160,29 @@ impl Queue {
     /// True if more of the file is wanted, once a read of it does not wait.
     pub(crate) fn wants_input(&self) -> bool {
         let has_more = self.file == UrlFile::Waiting && !self.lines.is_over();
-        has_more && self.bad_line.is_none() && self.queued.len() < MOST_AHEAD
+        has_more && self.stop.is_none() && self.queued.len() < MOST_AHEAD
     }
 
-    /// Reads URLs ahead. A read that may wait is done only if nothing is in flight, as `is_idle`
-    /// says, and no URL is queued.
+    /// Reads URLs ahead, until one ends the crawl, or a read fails. A read that may wait is done
+    /// only if nothing is in flight, as `is_idle` says, and no URL is queued.
     ///
     /// # Errors
     ///
-    /// `Read` if a read failed, `Memory` if memory ran out.
+    /// There is no memory for them.
     pub(crate) fn read_ahead<R: Source>(
         &mut self,
         input: &mut R,
         is_idle: bool,
-    ) -> Result<(), FaultKind>
-        requires counts { CanCount (R.source input.old) }
-        ensures counts_on { OnOk result (CanCount (R.source input.new)) }
+    ) -> Result<(), AllocError>
+        requires counts { self.old.stop ≡ None → CanCount (R.source input.old) }
+        ensures counts_on { OnOk result
+            (self.new.stop ≡ None → CanCount (R.source input.new)) }
         ensures reads { OnOk result (Reads (queue_shown self.old) (queue_shown self.new)
             (R.source input.old).bytes (R.source input.new).bytes) }
         ensures hosts { KeepsHosts self.old self.new }
     {
         for _ in 0..MOST_LINES {
-            if self.bad_line.is_some() || self.queued.len() >= MOST_AHEAD {
+            if self.stop.is_some() || self.queued.len() >= MOST_AHEAD {
                 return Ok(());
             }
             if !self.read_one(input, is_idle)? {
@@ -185,9 +193,10 @@ impl Queue {
     }
 
     // Reads the next URL, or more of the file. Returns false if no more can be read now.
-    fn read_one<R: Source>(&mut self, input: &mut R, is_idle: bool) -> Result<bool, FaultKind>
+    fn read_one<R: Source>(&mut self, input: &mut R, is_idle: bool) -> Result<bool, AllocError>
         requires counts { CanCount (R.source input.old) }
-        ensures counts_on { OnOk result (CanCount (R.source input.new)) }
+        ensures counts_on { OnOk result
+            (self.new.stop ≡ None → CanCount (R.source input.new)) }
         ensures reads { OnOk result (Reads (queue_shown self.old) (queue_shown self.new)
             (R.source input.old).bytes (R.source input.new).bytes) }
         ensures hosts { KeepsHosts self.old self.new }
@@ -201,18 +210,19 @@ impl Queue {
         match self.lines.next(self.alloc) {
             Ok(Line::Url(url, line)) => self.add(url, line),
             Ok(Line::Bad(url, line)) => self.add_bad(url, line),
-            Ok(Line::Passed) => Ok(true),
+            Ok(Line::Skipped) => Ok(true),
             Ok(Line::Unread) => self.read_on(input, is_idle),
             Ok(Line::Over) => Ok(false),
-            Err(_) => Err(FaultKind::Memory),
+            Err(error) => Err(error),
         }
     }
 
-    // Reads more of the file, if the read does not wait, or may.
-    fn read_on<R: Source>(&mut self, input: &mut R, is_idle: bool) -> Result<bool, FaultKind>
+    // Reads more of the file, if the read does not wait, or may. Returns false if it did not.
+    fn read_on<R: Source>(&mut self, input: &mut R, is_idle: bool) -> Result<bool, AllocError>
         requires counts { CanCount (R.source input.old) }
         requires no_line { NeedsMore (queue_shown self.old).lines }
-        ensures counts_on { OnOk result (CanCount (R.source input.new)) }
+        ensures counts_on { OnOk result
+            (self.new.stop ≡ None → CanCount (R.source input.new)) }
         ensures reads { OnOk result (ReadsOn (queue_shown self.old) (queue_shown self.new)
             (R.source input.old).bytes (R.source input.new).bytes) }
         ensures hosts { KeepsHosts self.old self.new }
@@ -221,13 +231,16 @@ impl Queue {
         if !may_wait && self.file != UrlFile::Regular && !input.is_ready() {
             return Ok(false);
         }
-        self.lines.read_on(self.alloc, input)?;
-        Ok(true)
+        let was_read = self.lines.read_on(self.alloc, input)?;
+        if !was_read {
+            self.stop = Some(CrawlFault::Input(FaultKind::Read));
+        }
+        Ok(was_read)
     }
 
     // Adds a URL to the queue, with where it leads to. `line` is its line of the file, if it has
     // one.
-    fn add(&mut self, url: String, line: u64) -> Result<bool, FaultKind>
+    fn add(&mut self, url: String, line: u64) -> Result<bool, AllocError>
         ensures added { OnOk result (AddsUrl (string_bytes url) (queue_shown self.old)
             (queue_shown self.new)) }
         ensures hosts { KeepsHosts self.old self.new }
@@ -237,44 +250,41 @@ impl Queue {
                 let route = Route::To(target);
                 self.push(Queued { url, route })
             }
-            Err(UrlFault::Memory) => Err(FaultKind::Memory),
+            Err(UrlFault::Memory) => Err(AllocError),
             Err(_) => self.add_bad(url, line),
         }
     }
 
-    // Adds a bad URL to the queue. It ends the crawl unless it is to be passed over.
-    fn add_bad(&mut self, url: String, line: u64) -> Result<bool, FaultKind>
+    // Adds a bad URL to the queue. It ends the crawl unless bad URLs are skipped.
+    fn add_bad(&mut self, url: String, line: u64) -> Result<bool, AllocError>
         ensures added { OnOk result (AddsUrl (string_bytes url) (queue_shown self.old)
             (queue_shown self.new)) }
         ensures hosts { KeepsHosts self.old self.new }
     {
         if !self.options.flags.skip_bad {
-            self.bad_line = Some(line);
+            self.stop = Some(CrawlFault::BadUrl(line));
         }
         let route = Route::Bad;
         self.push(Queued { url, route })
     }
 
     // Adds a URL to the queue.
-    fn push(&mut self, one: Queued) -> Result<bool, FaultKind>
+    fn push(&mut self, one: Queued) -> Result<bool, AllocError>
         ensures added { OnOk result (AddsUrl (string_bytes one.url) (queue_shown self.old)
             (queue_shown self.new)) }
         ensures hosts { KeepsHosts self.old self.new }
     {
-        match self.queued.push_back(one) {
-            Ok(()) => Ok(true),
-            Err(_) => Err(FaultKind::Memory),
-        }
+        self.queued.push_back(one)?;
+        Ok(true)
     }
 
-    /// Takes a bad URL out of the queue, if bad URLs are passed over: the first one, or if one
+    /// Takes a bad URL out of the queue, if bad URLs are skipped: the first one, or if one
     /// transfer is in flight at a time, the next URL, once nothing is, as `is_idle` says.
     pub(crate) fn take_bad(&mut self, is_idle: bool) -> Option<String>
-        ensures takes { IfSome result (λ url. TakesOut (string_bytes url ∷ [])
+        ensures takes { IfSome result (λ url. TakesBad is_idle (string_bytes url)
             (queue_shown self.old) (queue_shown self.new)) }
-        ensures skips { OnSome result (self.old.options.flags.skip_bad ≡ true) }
-        ensures idle { OnSome result (self.old.options.parallel ≡ 1 → is_idle ≡ true) }
         ensures none { IfNone result (queue_shown self.new ≡ queue_shown self.old) }
+        ensures stop { self.new.stop ≡ self.old.stop }
         ensures fewer { OnSome result
             (length self.new.queued.items < length self.old.queued.items) }
         ensures hosts { KeepsHosts self.old self.new }
@@ -304,20 +314,19 @@ impl Queue {
     /// # Errors
     ///
     /// There is no memory for them.
-    pub(crate) fn learn<N: Names>(&mut self, names: &N) -> Result<(), FaultKind>
+    pub(crate) fn learn<N: Names>(&mut self, names: &N) -> Result<(), AllocError>
         ensures same { queue_shown self.new ≡ queue_shown self.old }
+        ensures stop { self.new.stop ≡ self.old.stop }
         ensures hosts { KeepsHosts self.old self.new }
     {
-        match self.hosts.learn(names) {
-            Ok(()) => Ok(()),
-            Err(_) => Err(FaultKind::Memory),
-        }
+        self.hosts.learn(names)
     }
 
     /// Records that these transfers are in flight, and no others.
     pub(crate) fn settle(&mut self, in_flight: &[InFlight])
         ensures same { queue_shown self.new ≡ queue_shown self.old }
-        ensures noted { All (IsNoted self.new.hosts.awaited.items) in_flight.now }
+        ensures stop { self.new.stop ≡ self.old.stop }
+        ensures awaited_all { All (IsAwaited self.new.hosts.awaited.items) in_flight.now }
     {
         self.hosts.settle(in_flight);
     }
@@ -345,23 +354,24 @@ impl Queue {
         free: usize,
         names: &N,
         crawler: &mut C,
-    ) -> Result<Window, FaultKind>
-        requires stands { C.stands crawler.old }
-        ensures stands { C.stands crawler.new }
-        ensures takes { IfOk result (λ window. TakesOut (urls_in_flight window.urls.items)
+    ) -> Result<Window, AllocError>
+        requires can_go_on { C.can_go_on crawler.old }
+        ensures can_go_on { C.can_go_on crawler.new }
+        ensures takes { IfOk result (λ window. TakesOut (urls_in_flight window.transfers.items)
             (queue_shown self.old) (queue_shown self.new)) }
+        ensures stop { self.new.stop ≡ self.old.stop }
         ensures jobs { IfOk result (λ window. AllZip (IsJobOf self.old.options)
-            window.jobs.items window.urls.items) }
-        ensures few { IfOk result (λ window. length window.urls.items ≤ free) }
+            window.jobs.items window.transfers.items) }
+        ensures few { IfOk result (λ window. length window.transfers.items ≤ free) }
         ensures keeps { KeepsAwaited self.old.hosts.table self.new.hosts.table
             self.old.hosts.awaited.items self.new.hosts.awaited.items }
         ensures awaits { IfOk result (λ window.
-            AreAwaited self.new.hosts.awaited.items window.urls.items) }
+            AreAwaited self.new.hosts.awaited.items window.transfers.items) }
     {
         let mut window = Window::new(self.alloc);
         self.awaits_name = false;
         while let Some(one) = self.next(free, &window) {
-            self.sort(one, &mut window, names, crawler)?;
+            self.begin_or_wait(one, &mut window, names, crawler)?;
         }
         self.put_back(&mut window.waiting)?;
         Ok(window)
@@ -371,14 +381,14 @@ impl Queue {
     // that wait unless one transfer is in flight at a time.
     fn next(&mut self, free: usize, window: &Window) -> Option<Queued>
         ensures takes { self.old.queued.items ≡ option_to_list result ++ self.new.queued.items }
-        ensures room { OnSome result (length window.now.urls.items < free) }
+        ensures room { OnSome result (length window.now.transfers.items < free) }
         ensures first { OnSome result
             (self.old.options.parallel ≡ 1 → window.now.waiting.items ≡ []) }
         ensures fewer { OnSome result
             (length self.new.queued.items < length self.old.queued.items) }
         ensures same { KeepsOthers self.old self.new }
     {
-        if window.urls.len() >= free {
+        if window.transfers.len() >= free {
             return None;
         }
         if self.options.parallel == 1 && !window.waiting.is_empty() {
@@ -387,57 +397,56 @@ impl Queue {
         self.queued.pop_front()
     }
 
-    // Begins the transfer of a URL, if its host has a place; else the URL has to wait.
-    fn sort<N: Names, C: Crawler>(
+    // Begins the transfer of a URL, if its host has a place; otherwise the URL waits.
+    fn begin_or_wait<N: Names, C: Crawler>(
         &mut self,
         one: Queued,
         window: &mut Window,
         names: &N,
         crawler: &mut C,
-    ) -> Result<(), FaultKind>
-        requires stands { C.stands crawler.old }
-        ensures stands { C.stands crawler.new }
-        ensures sorts { OnOk result (Sorts self.old.options (url_queued one) window.old
+    ) -> Result<(), AllocError>
+        requires can_go_on { C.can_go_on crawler.old }
+        ensures can_go_on { C.can_go_on crawler.new }
+        ensures begins { OnOk result (BeginsOrWaits self.old.options (url_queued one) window.old
             window.new) }
         ensures same { KeepsQueue self.old self.new }
         ensures keeps { KeepsAwaited self.old.hosts.table self.new.hosts.table
             self.old.hosts.awaited.items self.new.hosts.awaited.items }
-        ensures awaits { OnOk result (AreAwaited self.old.hosts.awaited.items window.old.urls.items
-            → AreAwaited self.new.hosts.awaited.items window.new.urls.items) }
+        ensures awaits { OnOk result
+            (AreAwaited self.old.hosts.awaited.items window.old.transfers.items
+            → AreAwaited self.new.hosts.awaited.items window.new.transfers.items) }
     {
         let Queued { url, route } = one;
         let Route::To(target) = route else {
             let route = Route::Bad;
-            return window.pass(Queued { url, route });
+            return window.wait(Queued { url, route });
         };
-        match self.hosts.place(&target, names, crawler) {
-            Ok(Placed::At(place)) => {
-                let route = Route::To(target);
-                self.begin(Queued { url, route }, place, window)
-            }
-            Ok(placed) => {
+        match self.hosts.place(&target, names, crawler)? {
+            Placed::At(place) => self.begin(url, target, place, window),
+            placed => {
                 self.awaits_name |= placed == Placed::Unresolved;
                 let route = Route::To(target);
-                window.pass(Queued { url, route })
+                window.wait(Queued { url, route })
             }
-            Err(_) => Err(FaultKind::Memory),
         }
     }
 
-    // Begins the transfer of a URL at that place, with the next number.
-    fn begin(&mut self, one: Queued, place: u32, window: &mut Window) -> Result<(), FaultKind>
-        ensures begins { OnOk result (Sorts self.old.options (url_queued one) window.old
+    // Begins the transfer of a URL with that target, at that place, with the next number.
+    fn begin(
+        &mut self,
+        url: String,
+        target: Target,
+        place: u32,
+        window: &mut Window,
+    ) -> Result<(), AllocError>
+        requires leads { ∥ GivesTarget (string_bytes url) target ∥₁ }
+        ensures begins { OnOk result (Begins self.old.options (string_bytes url) window.old
             window.new) }
         ensures same { KeepsAll self.old self.new }
         ensures awaits { OnOk result (is_awaited self.old.hosts.awaited.items place ≡ true
-            → AreAwaited self.old.hosts.awaited.items window.old.urls.items
-            → AreAwaited self.old.hosts.awaited.items window.new.urls.items) }
+            → AreAwaited self.old.hosts.awaited.items window.old.transfers.items
+            → AreAwaited self.old.hosts.awaited.items window.new.transfers.items) }
     {
-        let Queued { url, route } = one;
-        let Route::To(target) = route else {
-            let route = Route::Bad;
-            return window.pass(Queued { url, route });
-        };
         let number = self.number;
         self.number = number.saturating_add(1);
         let job = Job {
@@ -447,25 +456,23 @@ impl Queue {
             target,
         };
         let is_unknown = self.hosts.is_unknown(place);
-        let url = InFlight {
+        let transfer = InFlight {
             number,
             url,
             place,
             is_unknown,
         };
-        window.add(job, url)
+        window.add(job, transfer)
     }
 
     // Puts the URLs that have to wait back to the front of the queue.
-    fn put_back(&mut self, waiting: &mut Vec<Queued>) -> Result<(), FaultKind>
+    fn put_back(&mut self, waiting: &mut Vec<Queued>) -> Result<(), AllocError>
         ensures back { OnOk result
             (self.new.queued.items ≡ waiting.old.items ++ self.old.queued.items) }
         ensures same { KeepsOthers self.old self.new }
     {
         while let Some(one) = waiting.pop() {
-            if self.queued.push_front(one).is_err() {
-                return Err(FaultKind::Memory);
-            }
+            self.queued.push_front(one)?;
         }
         Ok(())
     }

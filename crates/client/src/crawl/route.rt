@@ -1,11 +1,11 @@
-//! Where a URL leads to.
+//! Targets of URLs that were read.
 
 use conn_key::Target;
 
-/// Where a URL leads to.
+/// The target of a URL, if it has one.
 #[derive(Drop)]
 pub(crate) enum Route {
     To(Target),
-    /// Nowhere: the URL is bad.
+    /// None: the URL is bad.
     Bad,
 }

@@ -1,21 +1,21 @@
-//! The time of a crawl, and its bell.
+//! The timer of a crawl.
 
 use crate::crawl::crawler::Signals;
 use exchange::Clock;
 use run_loop::{MicroClock, Timer, is_late};
 use std::sync::atomic::{AtomicBool, Ordering};
 
-/// The time of a crawl: it stops a transfer that has reached its time limit, and all of them once
-/// the crawl is over. Its bell rings once, for news from outside.
+/// The timer of a crawl. It stops a transfer at its time limit, and all transfers once the crawl is
+/// over. It wakes up the loop once, for news from outside.
 #[derive(Drop)]
 pub(crate) struct CrawlTimer<'a, T: MicroClock, S: Signals> {
     pub(crate) clock: &'a T,
     /// The time limit of a transfer, in microseconds.
     pub(crate) limit: u64,
-    /// Number of rings before.
-    pub(crate) rings: u64,
-    /// Its bell has rung.
-    pub(crate) has_rung: &'a AtomicBool,
+    /// Number of wake-ups before.
+    pub(crate) wakeups: u64,
+    /// It has woken up the loop.
+    pub(crate) has_woken: &'a AtomicBool,
     pub(crate) signals: &'a S,
 }
 
@@ -53,10 +53,10 @@ impl<T: MicroClock, S: Signals> Timer for CrawlTimer<'_, T, S> {
     }
 
     fn rings(&self) -> u64 {
-        if !self.has_rung.load(Ordering::SeqCst) && self.signals.has_news() {
-            self.has_rung.store(true, Ordering::SeqCst);
+        if !self.has_woken.load(Ordering::SeqCst) && self.signals.has_news() {
+            self.has_woken.store(true, Ordering::SeqCst);
         }
-        let more = self.has_rung.load(Ordering::SeqCst) as u64;
-        self.rings.saturating_add(more)
+        let more = self.has_woken.load(Ordering::SeqCst) as u64;
+        self.wakeups.saturating_add(more)
     }
 }

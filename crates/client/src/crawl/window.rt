@@ -5,8 +5,7 @@ ghost use Rattle.std.specs.Prelude.{◌≡◌, ◌++◌, ◌∷◌, [], OnOk};
 use crate::crawl::in_flight::InFlight;
 use crate::crawl::queued::Queued;
 use exchange::Job;
-use script_text::FaultKind;
-use std::alloc::Global;
+use std::alloc::{AllocError, Global};
 
 /// Transfers that are begun next, and the URLs that have to wait.
 #[derive(Drop)]
@@ -14,8 +13,8 @@ pub(crate) struct Window {
     /// The jobs of the transfers, with consecutive numbers.
     pub(crate) jobs: Vec<Job>,
     /// The URLs of the transfers.
-    pub(crate) urls: Vec<InFlight>,
-    /// The URLs that were passed over, since their hosts have no place yet.
+    pub(crate) transfers: Vec<InFlight>,
+    /// The URLs that wait, since their hosts have no place yet.
     pub(crate) waiting: Vec<Queued>,
 }
 
@@ -23,12 +22,12 @@ impl Window {
     /// Makes a window without transfers.
     pub(crate) fn new(alloc: Global) -> Window
         ensures jobs { result.jobs.items ≡ [] }
-        ensures urls { result.urls.items ≡ [] }
+        ensures transfers { result.transfers.items ≡ [] }
         ensures waiting { result.waiting.items ≡ [] }
     {
         Window {
             jobs: Vec::new(alloc),
-            urls: Vec::new(alloc),
+            transfers: Vec::new(alloc),
             waiting: Vec::new(alloc),
         }
     }
@@ -38,18 +37,15 @@ impl Window {
     /// # Errors
     ///
     /// There is no memory for it.
-    pub(crate) fn add(&mut self, job: Job, url: InFlight) -> Result<(), FaultKind>
+    pub(crate) fn add(&mut self, job: Job, transfer: InFlight) -> Result<(), AllocError>
         ensures jobs { OnOk result (self.new.jobs.items ≡ self.old.jobs.items ++ job ∷ []) }
-        ensures urls { OnOk result (self.new.urls.items ≡ self.old.urls.items ++ url ∷ []) }
+        ensures transfers { OnOk result
+            (self.new.transfers.items ≡ self.old.transfers.items ++ transfer ∷ []) }
         ensures waiting { self.new.waiting.items ≡ self.old.waiting.items }
     {
-        if self.jobs.push(job).is_err() {
-            return Err(FaultKind::Memory);
-        }
-        match self.urls.push(url) {
-            Ok(()) => Ok(()),
-            Err(_) => Err(FaultKind::Memory),
-        }
+        self.jobs.push(job)?;
+        self.transfers.push(transfer)?;
+        Ok(())
     }
 
     /// Adds a URL that has to wait.
@@ -57,15 +53,13 @@ impl Window {
     /// # Errors
     ///
     /// There is no memory for it.
-    pub(crate) fn pass(&mut self, one: Queued) -> Result<(), FaultKind>
+    pub(crate) fn wait(&mut self, one: Queued) -> Result<(), AllocError>
         ensures waiting { OnOk result
             (self.new.waiting.items ≡ self.old.waiting.items ++ one ∷ []) }
         ensures jobs { self.new.jobs.items ≡ self.old.jobs.items }
-        ensures urls { self.new.urls.items ≡ self.old.urls.items }
+        ensures transfers { self.new.transfers.items ≡ self.old.transfers.items }
     {
-        match self.waiting.push(one) {
-            Ok(()) => Ok(()),
-            Err(_) => Err(FaultKind::Memory),
-        }
+        self.waiting.push(one)?;
+        Ok(())
     }
 }

@@ -1,31 +1,15 @@
 -- URLs are fetched step by step.
 use Rattle.std.proofs.Common.{◌∙◌, sym, subst, List}
+use Rattle.std.specs.Prelude.{IfErr}
 use Rattle.exchange.specs.declared.job.Job.{Job}
+use Rattle.client.specs.Faults.{CanEnd}
 use Rattle.client.specs.Reading.{queue_shown}
 use Rattle.client.specs.Written.{TookAll, output_shown}
-use Rattle.client.specs.declared.crawl.Step.TheVariants.{Fetch, Wait, Read, End}
+use Rattle.client.specs.declared.crawl.Step.TheVariants.{Fetch, Read, End}
+use Rattle.client.specs.declared.options.CrawlOptions.{CrawlOptions}
 use Rattle.client.proofs.Finished.{at_ok, end_from, fault_is, fetched_here, fetches_on, step_from, stopped_here}
 use Rattle.client.proofs.Taken.{name_all}
 use Rattle.client.proofs.crawl.fetch_urls.Goals as goal
-
-pub loop-preserved-in-Ok-Wait : goal.loop-preserved-in-Ok-Wait
-loop-preserved-in-Ok-Wait g c =
-    let so_far = c.loop.invariant in
-    let is = c.next_step.new.output in
-    record {
-      counts = c.in-Ok-Wait.ensures.counts_on;
-      stands = c.next_step.ensures.stands;
-      same = c.next_step.ensures.same ∙ so_far.same;
-      at = λ crawl first at. (
-          let f = so_far.at crawl first at in
-          record {
-            jobs = f.jobs;
-            results = f.results;
-            ran = f.ran;
-            at = step_from c.in-Ok-Wait.field-0 Wait crawl f.jobs f.results first (g.R.Source.source c.next_step.new.input).bytes (queue_shown c.next_step.new.queue) (output_shown is.progress.now (g.W.Sink.sink is.output.now) is.output.ghost_name) c.in-Ok-Wait.field-0-is
-                (c.in-Ok-Wait.ensures.steps crawl f.jobs f.results first f.at);
-          });
-    }
 
 pub loop-preserved-in-Ok-Read : goal.loop-preserved-in-Ok-Read
 loop-preserved-in-Ok-Read g c =
@@ -33,7 +17,7 @@ loop-preserved-in-Ok-Read g c =
     let is = c.next_step.new.output in
     record {
       counts = c.in-Ok-Read.ensures.counts_on;
-      stands = c.next_step.ensures.stands;
+      can_go_on = c.next_step.ensures.can_go_on;
       same = c.next_step.ensures.same ∙ so_far.same;
       at = λ crawl first at. (
           let f = so_far.at crawl first at in
@@ -54,13 +38,14 @@ returns-in-Ok-End-clause-fetches g c = λ crawl first at. (
     let now = output_shown is.progress.now (g.W.Sink.sink is.output.now) is.output.ghost_name in
     let at' = step_from c.in-Ok-End.field-0 End crawl f.jobs f.results first (g.R.Source.source c.next_step.new.input).bytes queue now c.in-Ok-End.field-0-is (c.in-Ok-End.ensures.steps crawl f.jobs f.results first f.at) in
     let over = end_from c.in-Ok-End.field-0 End _ c.in-Ok-End.field-0-is c.in-Ok-End.ensures.end in
-    fetched_here g.C.Crawler.crawled crawl first (g.R.Source.source c.next_step.new.input).bytes queue now _ (record { jobs = f.jobs; results = f.results; ran = f.ran; at = at' }) (λ ok none. over (at_ok c.end.result _ c.end.ensures.whole ok) none))
+    fetched_here g.C.Crawler.crawled crawl first (g.R.Source.source c.next_step.new.input).bytes queue now _ (record { jobs = f.jobs; results = f.results; ran = f.ran; at = at' }) (λ ok none. over (at_ok c.end.result _ c.end.ensures.whole ok) none)
+    (subst (λ (o : CrawlOptions). IfErr c.end.result (CanEnd o)) at'.options c.end.ensures.fault))
 
 pub returns-in-Err-clause-fetches : goal.returns-in-Err-clause-fetches
 returns-in-Err-clause-fetches g c = λ crawl first at. (
     let f = c.loop.invariant.at crawl first at in
     let is = c.next_step.new.output in
-    stopped_here g.C.Crawler.crawled crawl first f.jobs f.results (output_shown is.progress.now (g.W.Sink.sink is.output.now) is.output.ghost_name) f.ran (c.in-Err.ensures.steps crawl f.jobs f.results first f.at))
+    stopped_here g.C.Crawler.crawled crawl first f.jobs f.results (output_shown is.progress.now (g.W.Sink.sink is.output.now) is.output.ghost_name) _ f.ran (c.in-Err.ensures.steps crawl f.jobs f.results first f.at) c.in-Err.ensures.fault)
 
 pub returns-in-Err-fetch-clause-same : goal.returns-in-Err-fetch-clause-same
 returns-in-Err-fetch-clause-same g c = let takes = c.fetch.ensures.takes in name_all takes.0 _ _ takes.2 ∙ c.next_step.ensures.same ∙ c.loop.invariant.same
@@ -77,7 +62,7 @@ returns-in-Err-fetch-clause-fetches g c = λ crawl first at. (
     let took = subst (λ (l : List Job). TookAll (g.C.Crawler.crawled c.next_step.new.crawler c.fetch.new.crawler l) mid now) c.as_slice.ensures.value c.fetch.ensures.takes in
     let at' = step_from c.in-Ok-Fetch.field-0 (Fetch c.in-Ok-Fetch.jobs) crawl f.jobs f.results first (g.R.Source.source c.next_step.new.input).bytes queue mid c.in-Ok-Fetch.field-0-is (c.in-Ok-Fetch.ensures.steps crawl f.jobs f.results first f.at) in
     let on = fetches_on g.C.Crawler.crawled crawl first c.next_step.new.crawler c.fetch.new.crawler jobs f.jobs f.results (g.R.Source.source c.next_step.new.input).bytes queue mid now f.ran at' took in
-    stopped_here g.C.Crawler.crawled crawl first on.jobs on.results now on.ran ((g.R.Source.source c.next_step.new.input).bytes, queue, on.at))
+    stopped_here g.C.Crawler.crawled crawl first on.jobs on.results now _ on.ran ((g.R.Source.source c.next_step.new.input).bytes, queue, on.at) c.in-Err-fetch.ensures.fault)
 
 pub returns-then-is_some-clause-same : goal.returns-then-is_some-clause-same
 returns-then-is_some-clause-same g c = let takes = c.fetch.ensures.takes in name_all takes.0 _ _ takes.2 ∙ c.next_step.ensures.same ∙ c.loop.invariant.same
@@ -94,7 +79,7 @@ returns-then-is_some-clause-fetches g c = λ crawl first at. (
     let took = subst (λ (l : List Job). TookAll (g.C.Crawler.crawled c.next_step.new.crawler c.fetch.new.crawler l) mid now) c.as_slice.ensures.value c.fetch.ensures.takes in
     let at' = step_from c.in-Ok-Fetch.field-0 (Fetch c.in-Ok-Fetch.jobs) crawl f.jobs f.results first (g.R.Source.source c.next_step.new.input).bytes queue mid c.in-Ok-Fetch.field-0-is (c.in-Ok-Fetch.ensures.steps crawl f.jobs f.results first f.at) in
     let on = fetches_on g.C.Crawler.crawled crawl first c.next_step.new.crawler c.fetch.new.crawler jobs f.jobs f.results (g.R.Source.source c.next_step.new.input).bytes queue mid now f.ran at' took in
-    fetched_here g.C.Crawler.crawled crawl first (g.R.Source.source c.next_step.new.input).bytes queue now _ on (λ ok none. fault_is is.progress.now.fault _ (sym c.is_some.ensures ∙ c.if-is_some.true) none))
+    fetched_here g.C.Crawler.crawled crawl first (g.R.Source.source c.next_step.new.input).bytes queue now _ on (λ ok none. fault_is is.progress.now.fault _ (sym c.is_some.ensures ∙ c.if-is_some.true) none) tt)
 
 pub loop-preserved : goal.loop-preserved
 loop-preserved g c =
@@ -104,7 +89,7 @@ loop-preserved g c =
     let takes = c.fetch.ensures.takes in
     record {
       counts = c.in-Ok-Fetch.ensures.counts_on;
-      stands = c.fetch.ensures.stands;
+      can_go_on = c.fetch.ensures.can_go_on;
       same = name_all takes.0 _ _ takes.2 ∙ c.next_step.ensures.same ∙ so_far.same;
       at = λ crawl first at. (
           let f = so_far.at crawl first at in
@@ -120,4 +105,4 @@ pub returns-clause-fetches : goal.returns-clause-fetches
 returns-clause-fetches g c = λ crawl first at. (
     let f = c.loop.invariant.at crawl first at in
     let is = c.loop.output in
-    stopped_here g.C.Crawler.crawled crawl first f.jobs f.results (output_shown is.progress.now (g.W.Sink.sink is.output.now) is.output.ghost_name) f.ran ((g.R.Source.source c.loop.input).bytes, queue_shown c.loop.queue, f.at))
+    stopped_here g.C.Crawler.crawled crawl first f.jobs f.results (output_shown is.progress.now (g.W.Sink.sink is.output.now) is.output.ghost_name) _ f.ran ((g.R.Source.source c.loop.input).bytes, queue_shown c.loop.queue, f.at) tt)

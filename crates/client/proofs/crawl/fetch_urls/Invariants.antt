@@ -1,4 +1,4 @@
-use Rattle.std.specs.Prelude.{◌≡◌, []}
+use Rattle.std.specs.Prelude.{◌≡◌, [], None}
 use Rattle.script_run.specs.Streams.{CanCount, Stream}
 use Rattle.client.specs.Crawling.{CrawlGiven, IsAt}
 use Rattle.client.specs.Reading.{queue_shown}
@@ -8,8 +8,8 @@ use Rattle.client.proofs.crawl.fetch_urls.Given as goal
 
 abbrev pub invariant-loop : goal.invariant-loop
 invariant-loop g l = record {
-  counts : CanCount (g.R.Source.source l.input);
-  stands : g.C.Crawler.stands l.crawler;
+  counts : l.queue.stop ≡ None → CanCount (g.R.Source.source l.input);
+  can_go_on : g.C.Crawler.can_go_on l.crawler;
   same : l.output.output.ghost_name ≡ l.fn.output.output.ghost_name;
   at : (crawl : CrawlGiven) (first : Stream)
       → IsAt crawl [] [] first (g.R.Source.source l.fn.input).bytes (queue_shown l.fn.queue) (output_shown l.fn.output.progress.now (g.W.Sink.sink l.fn.output.output.now) l.fn.output.output.ghost_name)

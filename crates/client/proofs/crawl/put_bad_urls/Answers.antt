@@ -7,7 +7,7 @@ use Rattle.client.proofs.Positions.{at_bad, at_same}
 use Rattle.client.proofs.crawl.put_bad_urls.Goals as goal
 
 pub loop-url-init : goal.loop-url-init
-loop-url-init g c = record { same = refl; in_flight = refl; at = λ crawl jobs results first source at. at }
+loop-url-init g c = record { same = refl; stop = refl; in_flight = refl; at = λ crawl jobs results first source at. at }
 
 pub loop-url-preserved : goal.loop-url-preserved
 loop-url-preserved g c =
@@ -20,11 +20,12 @@ loop-url-preserved g c =
     let writes = subst (λ (url : List ℕ). WritesBad url before after) c.as_str.ensures.value c.put_bad.ensures.writes in
     record {
       same = writes.writes.name ∙ c.loop-url.invariant.same;
+      stop = c.next_bad.ensures.stop ∙ c.loop-url.invariant.stop;
       in_flight = writes.in_flight ∙ c.loop-url.invariant.in_flight;
       at = λ crawl jobs results first source at. (
           let was = c.loop-url.invariant.at crawl jobs results first source at in
-          at_bad crawl jobs results first source _ (queue_shown queue) (queue_shown left) before after (sym (ap (λ (o : CrawlOptions). o.flags.skip_bad) was.options) ∙ c.in-Some.ensures.skips)
-          (λ p. c.loop-url.invariant.in_flight ∙ c.requires.idle (c.in-Some.ensures.idle (ap (λ (o : CrawlOptions). o.parallel) was.options ∙ p))) was c.in-Some.ensures.takes writes);
+          at_bad crawl jobs results first source _ (queue_shown queue) (queue_shown left) before after (sym (ap (λ (o : CrawlOptions). o.flags.skip_bad) was.options) ∙ c.in-Some.ensures.takes.skips)
+          (λ p. c.loop-url.invariant.in_flight ∙ c.requires.idle (c.in-Some.ensures.takes.idle (ap (λ (o : CrawlOptions). o.parallel) was.options ∙ p))) was c.in-Some.ensures.takes.takes writes);
     }
 
 pub returns-clause-puts : goal.returns-clause-puts

@@ -13,6 +13,7 @@ decreases-loop-url g l = length l.queue.queued.items
 abbrev pub invariant-loop-url : goal.invariant-loop-url
 invariant-loop-url g l = record {
   same : l.output.output.ghost_name ≡ l.fn.output.output.ghost_name;
+  stop : l.queue.stop ≡ l.fn.queue.stop;
   in_flight : l.output.progress.now.in_flight.items ≡ l.fn.output.progress.now.in_flight.items;
   at : (crawl : CrawlGiven) (jobs : List Job) (results : List JobResult) (first : Stream) (source : Option (List ℕ))
       → IsAt crawl jobs results first source (queue_shown l.fn.queue) (output_shown l.fn.output.progress.now (g.W.Sink.sink l.fn.output.output.now) l.fn.output.output.ghost_name)

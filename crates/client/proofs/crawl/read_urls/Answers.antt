@@ -11,4 +11,4 @@ returns-clause-reads g c = λ crawl jobs results first at. (
     let before = (g.R.Source.source c.args.input.now).bytes in
     let after = (g.R.Source.source c.read_ahead.new.input).bytes in
     let learned = at_same crawl jobs results first before (queue_shown c.args.queue.now) (queue_shown c.learn.new.self) now c.learn.ensures.same at in
-    c.put_bad_urls.ensures.puts crawl jobs results first after (at_reads crawl jobs results first before after (queue_shown c.learn.new.self) (queue_shown c.read_ahead.new.self) now learned c.in_default-read_ahead.ensures.reads))
+    c.put_bad_urls.ensures.puts crawl jobs results first after (at_reads crawl jobs results first before after (queue_shown c.learn.new.self) (queue_shown c.read_ahead.new.self) now learned c.in-Ok-read_ahead.ensures.reads))

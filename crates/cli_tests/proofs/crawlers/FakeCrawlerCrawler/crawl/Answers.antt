@@ -10,6 +10,6 @@ loop-place-preserved g c = takes_more g.R.Results.took c.args.results.now c.loop
 
 pub returns-then-to_end : goal.returns-then-to_end
 returns-then-to_end g c = record {
-  stands = tt;
+  can_go_on = tt;
   takes = takes_more g.R.Results.took c.args.results.now c.loop-place.results c.end_late.new.results c.loop-place.invariant c.end_late.ensures;
 }

@@ -3,4 +3,4 @@ use Rattle.client.proofs.Alone.{none_begun}
 use Rattle.client.proofs.crawl.loop_crawler.LoopCrawler.new.Goals as goal
 
 pub returns : goal.returns
-returns g c = record { stands = none_begun _ _ _ _ _ _ c.in_ok-run.ensures.empty c.in_ok-run.ensures.fresh }
+returns g c = record { can_go_on = none_begun _ _ _ _ _ _ c.in_ok-run.ensures.empty c.in_ok-run.ensures.fresh }

@@ -1,5 +1,5 @@
 use Rattle.std.specs.Prelude.{◌≡◌, ◌++◌, length}
-use Rattle.client.specs.Sorting.{KeepsOthers}
+use Rattle.client.specs.Windows.{KeepsOthers}
 use Rattle.client.proofs.crawl.queue.Queue.put_back.Given as goal
 
 abbrev pub decreases-loop-one : goal.decreases-loop-one

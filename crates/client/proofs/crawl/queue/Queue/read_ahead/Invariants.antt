@@ -1,11 +1,12 @@
+use Rattle.std.specs.Prelude.{◌≡◌, None}
 use Rattle.script_run.specs.Streams.{CanCount}
 use Rattle.client.specs.Reading.{Reads, queue_shown}
-use Rattle.client.specs.Sorting.{KeepsHosts}
+use Rattle.client.specs.Windows.{KeepsHosts}
 use Rattle.client.proofs.crawl.queue.Queue.read_ahead.Given as goal
 
 abbrev pub invariant-loop : goal.invariant-loop
 invariant-loop g l = record {
-  counts : CanCount (g.R.Source.source l.input);
+  counts : l.self.stop ≡ None → CanCount (g.R.Source.source l.input);
   reads : Reads (queue_shown l.fn.self) (queue_shown l.self) (g.R.Source.source l.fn.input).bytes (g.R.Source.source l.input).bytes;
   hosts : KeepsHosts l.fn.self l.self;
 }

@@ -11,10 +11,14 @@ returns-clause-takes c =
     let one = c.in_ok-url.field-0 in
     let below : place < length all = search rules in
     record {
-      each = takes_at all left place one below c.in_ok-url.ensures.value c.in_ok-url.ensures.items;
-      order = λ p. takes_first all left place one below c.in_ok-url.ensures.value c.in_ok-url.ensures.items (c.in_ok-place.ensures.first p);
-      left = refl;
-      lines = refl;
-      options = refl;
-      file = refl;
+      takes = record {
+        each = takes_at all left place one below c.in_ok-url.ensures.value c.in_ok-url.ensures.items;
+        order = λ p. takes_first all left place one below c.in_ok-url.ensures.value c.in_ok-url.ensures.items (c.in_ok-place.ensures.first p);
+        left = refl;
+        lines = refl;
+        options = refl;
+        file = refl;
+      };
+      skips = search rules;
+      idle = c.in_ok-place.ensures.idle;
     }

@@ -9,12 +9,13 @@ decreases-loop-one g l = length l.self.queued.items
 
 abbrev pub invariant-loop-one : goal.invariant-loop-one
 invariant-loop-one g l = record {
-  stands : g.C.Crawler.stands l.crawler;
+  can_go_on : g.C.Crawler.can_go_on l.crawler;
   is : IsWindow l.fn.self.options l.fn.self.queued.items l.window l.self.queued.items l.free;
   options : l.self.options ≡ l.fn.self.options;
   file : l.self.file ≡ l.fn.self.file;
   urls : l.self.urls.items ≡ l.fn.self.urls.items;
+  stop : l.self.stop ≡ l.fn.self.stop;
   lines : lines_shown l.self.lines ≡ lines_shown l.fn.self.lines;
   keeps : KeepsAwaited l.fn.self.hosts.table l.self.hosts.table l.fn.self.hosts.awaited.items l.self.hosts.awaited.items;
-  awaits : AreAwaited l.self.hosts.awaited.items l.window.urls.items;
+  awaits : AreAwaited l.self.hosts.awaited.items l.window.transfers.items;
 }

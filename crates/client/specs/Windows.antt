@@ -1,4 +1,4 @@
--- How the URLs of a queue are begun, and what stays the same.
+-- Windows of transfers that begin next, and the state that a queue keeps.
 use Rattle.std.specs.Prelude.{◌≡◌, ◌⊎◌, ◌++◌, ◌∷◌, [], string_bytes}
 use Rattle.exchange.specs.declared.job.Job.{Job}
 use Rattle.client.specs.FileLines.{lines_shown}
@@ -18,42 +18,44 @@ pub record Begins (options : CrawlOptions) (url : Text) (old new : Window) : Typ
   pub its_url : string_bytes one.url ≡ url
   pub its : IsJobOf options job one
   pub jobs : new.jobs.items ≡ old.jobs.items ++ (job ∷ [])
-  pub urls : new.urls.items ≡ old.urls.items ++ (one ∷ [])
+  pub transfers : new.transfers.items ≡ old.transfers.items ++ (one ∷ [])
   pub waiting : new.waiting.items ≡ old.waiting.items
 
--- that URL has to wait
+-- that URL waits
 pub record Waits (url : Text) (old new : Window) : Type 0 where
   pub one : Queued
   pub its_url : url_queued one ≡ url
   pub jobs : new.jobs.items ≡ old.jobs.items
-  pub urls : new.urls.items ≡ old.urls.items
+  pub transfers : new.transfers.items ≡ old.transfers.items
   pub waiting : new.waiting.items ≡ old.waiting.items ++ (one ∷ [])
 
-abbrev pub Sorts : CrawlOptions → Text → Window → Window → Type 0
-Sorts options url old new = Begins options url old new ⊎ Waits url old new
+abbrev pub BeginsOrWaits : CrawlOptions → Text → Window → Window → Type 0
+BeginsOrWaits options url old new = Begins options url old new ⊎ Waits url old new
 
 -- hosts keep their places
 pub record KeepsHosts (old new : Queue) : Type 0 where
   pub table : new.hosts.table ≡ old.hosts.table
   pub awaited : new.hosts.awaited.items ≡ old.hosts.awaited.items
 
--- what is read, and queued, stays the same
+-- the unread and the queued URLs stay the same
 pub record KeepsQueue (old new : Queue) : Type 0 where
   pub options : new.options ≡ old.options
   pub file : new.file ≡ old.file
   pub urls : new.urls.items ≡ old.urls.items
   pub lines : lines_shown new.lines ≡ lines_shown old.lines
   pub queued : new.queued.items ≡ old.queued.items
+  pub stop : new.stop ≡ old.stop
 
--- all but the queued URLs stays the same
+-- the state stays the same except for the queued URLs
 pub record KeepsOthers (old new : Queue) : Type 0 where
   pub options : new.options ≡ old.options
   pub file : new.file ≡ old.file
   pub urls : new.urls.items ≡ old.urls.items
   pub lines : lines_shown new.lines ≡ lines_shown old.lines
+  pub stop : new.stop ≡ old.stop
   pub hosts : KeepsHosts old new
 
--- all that contracts see stays the same
+-- the state stays the same
 pub record KeepsAll (old new : Queue) : Type 0 where
   pub queue : KeepsQueue old new
   pub hosts : KeepsHosts old new
