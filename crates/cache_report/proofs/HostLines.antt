@@ -2,8 +2,8 @@
 use Rattle.std.proofs.Common.{◌≡◌, ℕ, suc, ◌+◌, ◌<◌, ◌≤◌, List, [], ◌∷◌, ◌++◌, length, take, get_or, sym, ap, ◌∙◌, arith, append-nil, append_assoc}
 use Rattle.std.proofs.lemmas.List.{take_more, length-take, take_all}
 use Rattle.shared_cache.specs.declared.gathered.HostCount.{HostCount}
-use Rattle.exchange.specs.declared.done.Done.{Done}
-use Rattle.cache_report.specs.Report.{host_line, host_lines, total_line, result_line, report_text}
+use Rattle.cache_report.specs.declared.sums.JobSums.{JobSums}
+use Rattle.cache_report.specs.Report.{host_line, host_lines, lines_text, sums_line, total_line}
 
 -- after the lines of some hosts, the first of which has an index, comes the line of the next
 host_lines_push : (first : ℕ) (hosts : List HostCount) (host : HostCount) → host_lines first (hosts ++ (host ∷ [])) ≡ host_lines first hosts ++ host_line (first + length hosts) host
@@ -24,10 +24,10 @@ host_line_written before new hosts index none within so_far written =
     ∙ ap (host_lines 0) (sym (take_more hosts index none within))
 
 -- the lines of all hosts, and the two that come after them, are the report
-pub report_written : (hosts : List HostCount) (results : List Done) (index : ℕ) (first second third : List ℕ) → length hosts ≤ index → first ≡ host_lines 0 (take index hosts)
-    → second ≡ first ++ total_line hosts → third ≡ second ++ result_line results → third ≡ report_text hosts results
-unfolding report_text
-report_written hosts results index first second third past host_part total_part result_part =
+pub report_written : (hosts : List HostCount) (sums : JobSums) (index : ℕ) (first second third : List ℕ) → length hosts ≤ index → first ≡ host_lines 0 (take index hosts)
+    → second ≡ first ++ total_line hosts → third ≡ second ++ sums_line sums → third ≡ lines_text hosts sums
+unfolding lines_text
+report_written hosts sums index first second third past host_part total_part result_part =
     result_part
-    ∙ ap (λ text. text ++ result_line results) (total_part ∙ ap (λ text. text ++ total_line hosts) (host_part ∙ ap (host_lines 0) (take_all index hosts past)))
-    ∙ append_assoc (host_lines 0 hosts) (total_line hosts) (result_line results)
+    ∙ ap (λ text. text ++ sums_line sums) (total_part ∙ ap (λ text. text ++ total_line hosts) (host_part ∙ ap (host_lines 0) (take_all index hosts past)))
+    ∙ append_assoc (host_lines 0 hosts) (total_line hosts) (sums_line sums)

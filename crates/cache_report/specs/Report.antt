@@ -2,6 +2,7 @@
 use Rattle.std.specs.Prelude.{ℕ, ◌+◌, ◌-◌, ◌^◌, min, Bool, true, false, List, [], ◌∷◌, ◌++◌, length, replicate, codes, count_by, sum_by}
 use Rattle.std.specs.Fmt.{decimal}
 use Rattle.std.specs.List.{flat_map}
+use Rattle.cache_report.specs.declared.sums.JobSums.{JobSums}
 use Rattle.shared_cache.specs.declared.gathered.HostCount.{HostCount}
 use Rattle.exchange.specs.declared.done.Done.{Done}
 use Rattle.exchange.specs.declared.done.Done.TheVariants.{Good, Bad}
@@ -69,11 +70,18 @@ abbrev pub body_len : Done → ℕ
 body_len (Good answer) = answer.body_len
 body_len (Bad fault) = 0
 
--- the line of the transfers: how many ended; how many of them failed, had their response over a connection that was used
--- before, and had it after the request was sent once more; and how many bytes came as bodies
-abbrev pub result_line : List Done → List ℕ
-result_line results = line_text (codes "jobs") (length results ∷ count_by is_bad results ∷ count_by is_reused results ∷ count_by is_retried results ∷ shown_sum (sum_by body_len results) ∷ [])
+-- the numbers of transfers with these results: how many ended; how many of them failed, had their response over a
+-- connection that was used before, and had it after the request was sent again; and how many bytes came as bodies
+abbrev pub sums_of : List Done → JobSums
+sums_of results = record { jobs = length results; failed = count_by is_bad results; reused = count_by is_reused results; retried = count_by is_retried results; bytes = shown_sum (sum_by body_len results) }
+
+-- the line of the transfers
+abbrev pub sums_line : JobSums → List ℕ
+sums_line sums = line_text (codes "jobs") (sums.jobs ∷ sums.failed ∷ sums.reused ∷ sums.retried ∷ sums.bytes ∷ [])
 
 -- the report: a line for each host, one of all hosts, and one of the transfers
+unfoldable pub lines_text : List HostCount → JobSums → List ℕ
+lines_text hosts sums = host_lines 0 hosts ++ (total_line hosts ++ sums_line sums)
+
 unfoldable pub report_text : List HostCount → List Done → List ℕ
-report_text hosts results = host_lines 0 hosts ++ (total_line hosts ++ result_line results)
+report_text hosts results = lines_text hosts (sums_of results)

@@ -10,6 +10,6 @@ mod worked;
 
 pub use conn_log::Counts;
 pub use counting::count_part;
-pub use reporting::{report, report_of};
-pub use sums::totals;
+pub use reporting::{report, report_of, report_with};
+pub use sums::{JobSums, totals};
 pub use worked::worked_reports;

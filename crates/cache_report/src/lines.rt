@@ -1,11 +1,10 @@
 //! The lines of a report: a label, and numbers in eight places.
 
 ghost use Rattle.std.specs.Prelude.{◌≡◌, ◌∷◌, ◌++◌, OnOk, string_bytes};
-ghost use Rattle.cache_report.specs.Report.{line_text, numbers_of, host_line, total_line};
-ghost use Rattle.cache_report.specs.Report.{result_line};
+ghost use Rattle.cache_report.specs.Report.{host_line, line_text, numbers_of, sums_line};
+ghost use Rattle.cache_report.specs.Report.{total_line};
 
-use crate::sums::{bad_count, body_total, retried_count, reused_count, totals};
-use exchange::Done;
+use crate::sums::{JobSums, totals};
 use shared_cache::HostCount;
 use std::alloc::AllocError;
 use std::fmt::Write;
@@ -32,16 +31,17 @@ pub(crate) fn add_total_line(text: &mut String, hosts: &[HostCount]) -> Result<(
 }
 
 /// Adds the line of the transfers.
-pub(crate) fn add_result_line(text: &mut String, results: &[Done]) -> Result<(), AllocError>
-    ensures { OnOk result (string_bytes text.new
-        ≡ string_bytes text.old ++ result_line results.now) }
+pub(crate) fn add_sums_line(text: &mut String, sums: JobSums) -> Result<(), AllocError>
+    ensures { OnOk result (string_bytes text.new ≡ string_bytes text.old ++ sums_line sums) }
 {
-    let count = results.len() as u64;
-    let bad = bad_count(results);
-    let reused = reused_count(results);
-    let retried = retried_count(results);
-    let bytes = body_total(results);
-    add_line(text, "jobs", &[count, bad, reused, retried, bytes])
+    let JobSums {
+        jobs,
+        failed,
+        reused,
+        retried,
+        bytes,
+    } = sums;
+    add_line(text, "jobs", &[jobs, failed, reused, retried, bytes])
 }
 
 // Adds a line of that label: a number, and what happened.

@@ -1,9 +1,10 @@
 //! The report as a text.
 
 ghost use Rattle.std.specs.Prelude.{◌≡◌, IfOk, IfErr, string_bytes};
-ghost use Rattle.cache_report.specs.Report.{report_text};
+ghost use Rattle.cache_report.specs.Report.{lines_text, report_text};
 
-use crate::lines::{add_host_line, add_result_line, add_total_line};
+use crate::lines::{add_host_line, add_sums_line, add_total_line};
+use crate::sums::JobSums;
 use budget::Refusal;
 use exchange::Done;
 use shared_cache::{Gathered, HostCount};
@@ -39,11 +40,19 @@ pub fn report_of(alloc: Global, hosts: &[HostCount], results: &[Done]) -> Result
         ≡ report_text hosts.now results.now) }
     ensures memory { IfErr result (λ refusal. refusal ≡ Refusal.Memory) }
 {
+    report_with(alloc, hosts, JobSums::of(results))
+}
+
+/// The same of transfers whose results were summed up before.
+pub fn report_with(alloc: Global, hosts: &[HostCount], sums: JobSums) -> Result<String, Refusal>
+    ensures text { IfOk result (λ text. string_bytes text ≡ lines_text hosts.now sums) }
+    ensures memory { IfErr result (λ refusal. refusal ≡ Refusal.Memory) }
+{
     let mut text = String::new(alloc);
     for (index, host) in hosts.iter().enumerate() {
         add_host_line(&mut text, index as u64, host)?;
     }
     add_total_line(&mut text, hosts)?;
-    add_result_line(&mut text, results)?;
+    add_sums_line(&mut text, sums)?;
     Ok(text)
 }

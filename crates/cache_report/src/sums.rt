@@ -1,11 +1,41 @@
-//! What the report adds up and counts.
+//! Sums and counts of the report.
 
 ghost use Rattle.std.specs.Prelude.{◌≡◌, count_by, sum_by};
-ghost use Rattle.cache_report.specs.Report.{shown_sum, totals, is_bad, is_reused, is_retried};
-ghost use Rattle.cache_report.specs.Report.{body_len};
+ghost use Rattle.cache_report.specs.Report.{shown_sum, sums_of, totals};
+ghost use Rattle.cache_report.specs.Report.{body_len, is_bad, is_reused, is_retried};
 
 use exchange::Done;
 use shared_cache::HostCount;
+
+/// The numbers of the line `jobs` of a report.
+#[derive(Clone, Copy, Debug, PartialEq, Eq)]
+pub struct JobSums {
+    /// Transfers that ended.
+    pub jobs: u64,
+    /// Transfers that failed.
+    pub failed: u64,
+    /// Whole responses over a connection that had been used before.
+    pub reused: u64,
+    /// Whole responses after a retry.
+    pub retried: u64,
+    /// Bytes of the bodies of whole responses.
+    pub bytes: u64,
+}
+
+impl JobSums {
+    /// Returns the numbers of transfers with these results.
+    pub(crate) fn of(results: &[Done]) -> JobSums
+        ensures { result ≡ sums_of results.now }
+    {
+        JobSums {
+            jobs: results.len() as u64,
+            failed: bad_count(results),
+            reused: reused_count(results),
+            retried: retried_count(results),
+            bytes: body_total(results),
+        }
+    }
+}
 
 /// The sums of what happened at all hosts. Each is at most 18,446,744,073,709,551,615, which stands
 /// for a greater one too.
@@ -29,8 +59,8 @@ pub fn totals(hosts: &[HostCount]) -> HostCount
     total
 }
 
-/// How many bytes came as bodies of whole responses.
-pub(crate) fn body_total(results: &[Done]) -> u64
+// How many bytes came as bodies of whole responses.
+fn body_total(results: &[Done]) -> u64
     ensures { result ≡ shown_sum (sum_by body_len results.now) }
 {
     let mut total: u64 = 0;
@@ -50,8 +80,8 @@ fn body_len(done: &Done) -> u64
     }
 }
 
-/// How many transfers failed.
-pub(crate) fn bad_count(results: &[Done]) -> u64
+// How many transfers failed.
+fn bad_count(results: &[Done]) -> u64
     ensures { result ≡ count_by is_bad results.now }
 {
     results
@@ -60,8 +90,8 @@ pub(crate) fn bad_count(results: &[Done]) -> u64
         .count() as u64
 }
 
-/// How many have a whole response over a connection that was used before.
-pub(crate) fn reused_count(results: &[Done]) -> u64
+// How many have a whole response over a connection that was used before.
+fn reused_count(results: &[Done]) -> u64
     ensures { result ≡ count_by is_reused results.now }
 {
     results
@@ -70,8 +100,8 @@ pub(crate) fn reused_count(results: &[Done]) -> u64
         .count() as u64
 }
 
-/// How many have one after their request was sent once more.
-pub(crate) fn retried_count(results: &[Done]) -> u64
+// How many have one after their request was sent again.
+fn retried_count(results: &[Done]) -> u64
     ensures { result ≡ count_by is_retried results.now }
 {
     results

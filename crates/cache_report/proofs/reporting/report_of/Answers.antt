@@ -1,10 +1,10 @@
-use Rattle.std.proofs.Common.{string_bytes}
-use Rattle.cache_report.proofs.HostLines.{host_line_written, report_written}
+-- The results are summed up.
+use Rattle.std.proofs.Common.{◌≡◌, subst, string_bytes, String}
+use Rattle.std.specs.Prelude.{IfOk}
+use Rattle.cache_report.specs.Report.{lines_text, report_text}
+use Rattle.cache_report.specs.declared.sums.JobSums.{JobSums}
 use Rattle.cache_report.proofs.reporting.report_of.Goals as goal
 
-pub loop-index-preserved : goal.loop-index-preserved
-loop-index-preserved c = host_line_written (string_bytes c.loop-index.text) (string_bytes c.add_host_line.new.text) c.args.hosts.now c.loop-index.index _ c.loop-index-test.true c.loop-index.invariant c.in_ok-add_host_line.ensures
-
 pub returns-clause-text : goal.returns-clause-text
-returns-clause-text c = report_written c.args.hosts.now c.args.results.now c.loop-index.index (string_bytes c.loop-index.text) (string_bytes c.add_total_line.new.text) (string_bytes c.add_result_line.new.text)
-    c.loop-index-test.false c.loop-index.invariant c.in_ok-add_total_line.ensures c.in_ok-add_result_line.ensures
+unfolding report_text
+returns-clause-text c = subst (λ (sums : JobSums). IfOk c.report_with.result (λ text. string_bytes text ≡ lines_text c.args.hosts.now sums)) c.of.ensures c.report_with.ensures.text

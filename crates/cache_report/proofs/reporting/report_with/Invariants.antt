@@ -1,6 +1,6 @@
 use Rattle.std.proofs.Common.{◌≡◌, take, string_bytes}
 use Rattle.cache_report.specs.Report.{host_lines}
-use Rattle.cache_report.proofs.reporting.report_of.Given as goal
+use Rattle.cache_report.proofs.reporting.report_with.Given as goal
 
 -- the lines of the hosts so far
 abbrev pub invariant-loop-index : goal.invariant-loop-index
