@@ -8,4 +8,7 @@ pub mod LoadTraces
 pub mod LoadRefusals
 pub mod Percentages
 pub mod UrlJobs
+pub mod UnknownSites
+pub mod OwnJobs
+pub mod Outcomes
 pub mod Resolves

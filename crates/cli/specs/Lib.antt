@@ -18,3 +18,5 @@ pub mod Resolving
 pub mod MeasuredPlan
 pub mod LoadPlan
 pub mod LoadStatuses
+pub mod MeasuredSites
+pub mod MeasuredLoads

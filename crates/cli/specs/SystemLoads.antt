@@ -1,12 +1,14 @@
 -- What a load over the system's sockets reports.
 use Rattle.std.specs.Prelude.{◌≡◌, ℕ, List, None, length, ⊤}
 use Rattle.std.specs.declared.net.TcpStream.{TcpStream}
+use Rattle.mio.specs.declared.net.stream.TcpStream.{TcpStream as MioStream}
 use Rattle.clap.specs.Words.{Text}
 use Rattle.budget.specs.Limits.{bounds_of}
 use Rattle.exchange.specs.declared.job.Job.{Job}
 use Rattle.exchange.specs.Worlds.{World, world_of}
 use Rattle.socket.specs.Sockets.{IsUntouched}
 use Rattle.socket.specs.Streams.{HappensOver}
+use Rattle.socket.specs.declared.polled.PolledWire.{PolledWire}
 use Rattle.socket.specs.declared.waiting.WaitingWire.{WaitingWire}
 use Rattle.load_run.specs.Loading.{IsLoaded}
 use Rattle.load_run.specs.declared.loading.Loaded.{Loaded}
@@ -17,6 +19,10 @@ use Rattle.cli.specs.declared.loading.options.LoadOptions.{LoadOptions}
 -- connections over sockets whose reads and writes wait, whose bytes nobody knows, and a clock that may tell any moment
 abbrev pub waiting_world : World (WaitingWire TcpStream)
 waiting_world = world_of (λ wire site transfer. IsUntouched wire.connection site transfer) (λ old new happening. HappensOver (λ _. None) (λ _. None) old.connection new.connection old.stream new.stream happening) (λ moment. ⊤)
+
+-- the same of connections in an event loop
+abbrev pub polled_world : World (PolledWire MioStream)
+polled_world = world_of (λ wire site transfer. IsUntouched wire.connection site transfer) (λ old new happening. HappensOver (λ _. None) (λ _. None) old.connection new.connection old.stream new.stream happening) (λ moment. ⊤)
 
 -- these jobs were carried out by so many threads over one cache under these limits, of so many hosts
 abbrev pub CarriesOutLoad : LoadOptions → ℕ → List Job → Loaded → Type 0

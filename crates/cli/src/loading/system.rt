@@ -1,7 +1,8 @@
 //! Loads over the system's threads and sockets.
 
-ghost use Rattle.std.specs.Prelude.{◌≡◌, ◌≤◌, length, string_bytes, None, IfOk, IfSome};
-ghost use Rattle.cli.specs.SystemLoads.{CarriesOutLoad, ReportsLoad};
+ghost use Rattle.std.specs.Prelude.{◌≡◌, ◌≤◌, is_some, length, string_bytes, None, IfOk, IfSome};
+ghost use Rattle.cli.specs.MeasuredLoads.{HasOutcome};
+ghost use Rattle.cli.specs.SystemLoads.{CarriesOutLoad, ReportsLoad, polled_world};
 
 use crate::file_fault::{FileAction, file_fault_text};
 use crate::loading::failure::LoadFailure;
@@ -45,8 +46,11 @@ pub fn load_on_system<T: Threads + Wait + RandomSource + AllocGlobal + Sync>(
     alloc: Global,
     plan: LoadPlan,
 ) -> Result<LoadOutcome, LoadFailure>
-    ensures { IfOk result (λ outcome. plan.measured ≡ None
+    ensures own { IfOk result (λ outcome. plan.measured ≡ None
         → ReportsLoad plan.options (string_bytes outcome.report)) }
+    ensures measured { IfOk result (λ outcome. IfSome plan.measured (λ measured.
+        HasOutcome polled_world plan.options measured
+        (is_some plan.trace) outcome)) }
 {
     let LoadPlan {
         options,
@@ -147,7 +151,8 @@ pub(crate) fn named_file<'a>(
     alloc: Global,
     name: &'a Option<String>,
 ) -> Result<Option<OutputFile<'a>>, LoadFailure>
-    ensures { IfOk result (λ made. IfSome made (λ output. output.file.failures ≡ 0)) }
+    ensures sound { IfOk result (λ made. IfSome made (λ output. output.file.failures ≡ 0)) }
+    ensures named { IfOk result (λ made. is_some made ≡ is_some name.now) }
 {
     let Some(name) = name else {
         return Ok(None);
@@ -185,7 +190,9 @@ pub(crate) fn write_to(
 }
 
 // Copies the ports.
-pub(crate) fn ports_of(alloc: Global, given: &[u16]) -> Result<Vec<u16>, AllocError> {
+pub(crate) fn ports_of(alloc: Global, given: &[u16]) -> Result<Vec<u16>, AllocError>
+    ensures { IfOk result (λ ports. ports.items ≡ given.now) }
+{
     let mut ports = Vec::new(alloc);
     ports.extend_from_slice(given)?;
     Ok(ports)

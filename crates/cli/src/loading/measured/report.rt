@@ -1,7 +1,10 @@
 //! The report of a load of many jobs at once.
 
-ghost use Rattle.std.specs.Prelude.{◌≡◌, IfSome};
+ghost use Rattle.std.specs.Prelude.{◌≡◌, ◌↔◌, IsTrue, IfOk, IfSome, string_bytes};
+ghost use Rattle.load_figures.specs.Reports.{IsReportOf};
+ghost use Rattle.load_figures.specs.declared.job_counts.JobCounts.{JobCounts};
 ghost use Rattle.cli.specs.LoadStatuses.{load_status};
+ghost use Rattle.cli.specs.MeasuredLoads.{FailsAbove, IsOutcomeOf, load_lines};
 
 use crate::build::{BUILD, VERSION};
 use crate::loading::failure::LoadFailure;
@@ -11,7 +14,7 @@ use crate::loading::measured::sites::LoadSites;
 use crate::loading::options::LoadOptions;
 use crate::loading::outcome::LoadOutcome;
 use crate::loading::system::OutputFile;
-use cache_report::report_of;
+use cache_report::{JobSums, report_with};
 use load_figures::{
     Connections, HostRun, LoadReport, LoadRun, OptionValue, SaidOption, Summary, fails_above,
     json_text,
@@ -21,7 +24,6 @@ use load_run::LoadedMany;
 use script_run::Sink;
 use script_text::FaultKind;
 use std::alloc::{AllocError, Global};
-use std::fmt::Write;
 
 /// The status if more jobs failed than may fail.
 const FAILED_ABOVE: u8 = 5;
@@ -39,7 +41,10 @@ pub(crate) fn outcome_of(
     measured: &MeasuredPlan,
     report: &LoadReport,
     loaded: &LoadedMany,
-) -> Result<LoadOutcome, LoadFault> {
+) -> Result<LoadOutcome, LoadFault>
+    requires { IsReportOf loaded.now.figures.all report.now.jobs }
+    ensures { IfOk result (IsOutcomeOf measured.now loaded.now) }
+{
     match try_outcome(alloc, measured, report, loaded) {
         Ok(outcome) => Ok(outcome),
         Err(_) => Err(OUT_OF_MEMORY),
@@ -57,7 +62,9 @@ pub(crate) fn report_of_load(
     measured: &MeasuredPlan,
     sites: &LoadSites<'_>,
     loaded: &LoadedMany,
-) -> Result<LoadReport, LoadFault> {
+) -> Result<LoadReport, LoadFault>
+    ensures { IfOk result (λ report. IsReportOf loaded.now.figures.all report.jobs) }
+{
     let Ok(run) = run_of(alloc, options, measured, sites, loaded) else {
         return Err(OUT_OF_MEMORY);
     };
@@ -96,7 +103,10 @@ fn try_outcome(
     measured: &MeasuredPlan,
     report: &LoadReport,
     loaded: &LoadedMany,
-) -> Result<LoadOutcome, AllocError> {
+) -> Result<LoadOutcome, AllocError>
+    requires { IsReportOf loaded.now.figures.all report.now.jobs }
+    ensures { IfOk result (IsOutcomeOf measured.now loaded.now) }
+{
     let text = if measured.flags.json {
         json_text(alloc, report)?
     } else {
@@ -110,10 +120,7 @@ fn try_outcome(
     if report.jobs.good == 0 {
         note.push_str("run: no good response\n")?;
     }
-    let fails = match measured.numbers.fail_above {
-        Some(hundredths) => fails_above(report, hundredths),
-        None => false,
-    };
+    let fails = fails(report, measured.numbers.fail_above);
     let status = load_status(fails, report.jobs.good);
     Ok(LoadOutcome {
         report: text,
@@ -136,20 +143,33 @@ fn load_status(fails: bool, good: u64) -> u8
     }
 }
 
-// Makes the report: a line for each host, and a line for all jobs.
-fn lines_of(alloc: Global, loaded: &LoadedMany) -> Result<String, AllocError> {
-    let Ok(mut text) = report_of(alloc, &loaded.gathered.hosts, &[]) else {
-        return Err(AllocError);
-    };
-    let hosts = text.as_str().rfind("jobs").unwrap_or(0);
-    text.truncate(hosts);
-    let all = loaded.figures.all();
-    text.push_str("jobs")?;
-    for number in &[all.done(), all.failed, all.reused, all.retried, all.bytes] {
-        write!(text, "{number:>8}")?;
+// True if more requests failed than may fail, in hundredths of a percent.
+fn fails(report: &LoadReport, fail_above: Option<u32>) -> bool
+    ensures { (counts : JobCounts) → IsReportOf counts report.now.jobs
+        → (IsTrue result ↔ FailsAbove fail_above counts) }
+{
+    match fail_above {
+        Some(hundredths) => fails_above(report, hundredths),
+        None => false,
     }
-    text.push('\n')?;
-    Ok(text)
+}
+
+// Makes the report: a line for each host, one for all hosts, and one for the requests.
+fn lines_of(alloc: Global, loaded: &LoadedMany) -> Result<String, AllocError>
+    ensures { IfOk result (λ text. string_bytes text ≡ load_lines loaded.now) }
+{
+    let all = loaded.figures.all();
+    let sums = JobSums {
+        jobs: all.done(),
+        failed: all.failed,
+        reused: all.reused,
+        retried: all.retried,
+        bytes: all.bytes,
+    };
+    match report_with(alloc, &loaded.gathered.hosts, sums) {
+        Ok(text) => Ok(text),
+        Err(_) => Err(AllocError),
+    }
 }
 
 // Collects the facts of a load that are not figures.

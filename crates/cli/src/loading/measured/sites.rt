@@ -1,5 +1,8 @@
 //! The addresses of the sites that a load requests.
 
+ghost use Rattle.std.specs.Prelude.{◌≡◌, length, IfErr, IfOk};
+ghost use Rattle.cli.specs.MeasuredSites.{IfUnknown, IsUnknownAt, IsUnknownIn};
+
 use crate::command_line::resolving::system_addresses;
 use client::{Resolved, resolved_of};
 use conn_key::Target;
@@ -50,14 +53,19 @@ impl<'a> LoadSites<'a> {
         alloc: Global,
         jobs: &'a [Job],
         resolved: &[Resolved],
-    ) -> Result<LoadSites<'a>, SiteFault<'a>> {
+    ) -> Result<LoadSites<'a>, SiteFault<'a>>
+        ensures { IfErr result (IsUnknownIn jobs.now resolved.now) }
+    {
         let mut sites: Vec<LoadSite<'a>> = Vec::new(alloc);
         for job in jobs {
             if (job.site as usize) < sites.len() {
                 continue;
             }
             let target = &job.target;
-            let place = place_of(system, alloc, target, resolved)?;
+            let place = match place_of(system, alloc, target, resolved) {
+                Ok(place) => place,
+                Err(fault) => return Err(fault),
+            };
             if sites.push(LoadSite { target, place }).is_err() {
                 return Err(SiteFault::Memory);
             }
@@ -95,7 +103,9 @@ impl<'a> LoadSites<'a> {
         &self,
         alloc: Global,
         workers: u32,
-    ) -> Result<Vec<Addresses>, AllocError> {
+    ) -> Result<Vec<Addresses>, AllocError>
+        ensures { IfOk result (λ all. length all.items ≡ workers) }
+    {
         let mut all = Vec::new(alloc);
         for _ in 0..workers {
             let own = self.addresses_once(alloc)?;
@@ -131,7 +141,9 @@ fn place_of<'a>(
     alloc: Global,
     target: &'a Target,
     resolved: &[Resolved],
-) -> Result<Place, SiteFault<'a>> {
+) -> Result<Place, SiteFault<'a>>
+    ensures { IfErr result (IsUnknownAt target.now resolved.now) }
+{
     let host = target.host.as_str();
     if let Some(address) = resolved_of(resolved, host, target.port) {
         return match vec![in alloc; address; 1] {
@@ -152,7 +164,9 @@ fn looked_up<'a>(
     alloc: Global,
     host: &'a str,
     port: u16,
-) -> Result<Place, SiteFault<'a>> {
+) -> Result<Place, SiteFault<'a>>
+    ensures { IfErr result (λ fault. IfUnknown fault (λ name. name ≡ host.now)) }
+{
     match system_addresses(system, alloc, host, port) {
         Ok(addresses) if addresses.is_empty() => Err(SiteFault::Unknown(host)),
         Ok(addresses) => Ok(Place::Known(addresses)),

@@ -1,10 +1,17 @@
 //! Loads of many jobs at once over the system's threads and sockets.
 
-ghost use Rattle.std.specs.Prelude.{◌≡◌, IfSome};
+ghost use Rattle.std.specs.Prelude.{◌≡◌, ◌⊎◌, ◌<◌, ◌^◌, is_some, length, IfOk, IfSome, OnOk};
+ghost use Rattle.load_figures.specs.Reports.{IsReportOf};
+ghost use Rattle.cli.specs.SystemLoads.{polled_world};
+ghost use Rattle.cli.specs.MeasuredLoads.{AddsOwn, HasOutcome, IsLoadOutcomeOf, IsUnknownHost};
+ghost use Rattle.cli.specs.MeasuredLoads.{IsOwnJob, IsUnknownSite, ReportsMany, RunsMany};
+ghost use Rattle.cli.specs.MeasuredLoads.{jobs_planned};
+ghost use Rattle.cli.specs.MeasuredLoads.{per_second, positive};
+ghost use Rattle.cli.specs.declared.loading.measured.plan.MeasuredPlan.{MeasuredPlan};
 
 use crate::loading::failure::LoadFailure;
 use crate::loading::fault::{LoadFault, NO_THREAD, OUT_OF_MEMORY, POLL_FAILED};
-use crate::loading::measured::plan::MeasuredPlan;
+use crate::loading::measured::plan::{MeasuredFlags, MeasuredPlan};
 use crate::loading::measured::report::{outcome_of, report_of_load, write_picture};
 use crate::loading::measured::sites::{LoadSites, SiteFault};
 use crate::loading::measured::targets::job_of;
@@ -43,7 +50,10 @@ pub(crate) fn load_measured<R: Threads + Wait + RandomSource + AllocGlobal + Syn
     options: LoadOptions,
     measured: MeasuredPlan,
     trace: &Option<String>,
-) -> Result<LoadOutcome, LoadFailure> {
+) -> Result<LoadOutcome, LoadFailure>
+    ensures { IfOk result (HasOutcome polled_world options measured
+        (is_some trace.now)) }
+{
     if !measured.urls.is_empty() {
         return load_sites(rt, system, alloc, options, &measured, trace, &[]);
     }
@@ -55,14 +65,18 @@ pub(crate) fn load_measured<R: Threads + Wait + RandomSource + AllocGlobal + Syn
         return Err(OUT_OF_MEMORY.into());
     };
     let mut measured = measured;
-    if add_own(alloc, &mut measured, &ports).is_err() {
+    let Ok(()) = add_own(alloc, &mut measured, &ports) else {
         return Err(OUT_OF_MEMORY.into());
-    }
+    };
     let ended = AtomicBool::new(false);
     thread::scope(
         scope_env(),
         rt,
-        |scope| -> Result<LoadOutcome, LoadFailure> {
+        |scope| -> Result<LoadOutcome, LoadFailure>
+            ensures { IfOk result (λ outcome. IsUnknownHost measured outcome
+                ⊎ ReportsMany polled_world options measured
+                (is_some trace.entry.now) outcome) }
+        {
             let serving = match Builder::new().spawn_scoped(scope, || server.serve(rt, &ended)) {
                 Ok(serving) => serving,
                 Err(error) => return Err(fault_of(&error, NO_THREAD).into()),
@@ -78,20 +92,30 @@ pub(crate) fn load_measured<R: Threads + Wait + RandomSource + AllocGlobal + Syn
 }
 
 // Adds a URL for each port of the load's own server.
-fn add_own(alloc: Global, measured: &mut MeasuredPlan, ports: &[u16]) -> Result<(), AllocError> {
+fn add_own(alloc: Global, measured: &mut MeasuredPlan, ports: &[u16]) -> Result<(), AllocError>
+    requires few { length ports.now < 2 ^ 32 }
+    ensures added { OnOk result (AddsOwn ports.now measured.old measured.new) }
+{
     for (site, port) in ports.iter().enumerate() {
         let port = *port;
-        let site = u32::try_from(site).unwrap_or(u32::MAX);
-        let target = Target {
-            host: String::from_str(alloc, "127.0.0.1")?,
-            port,
-            path: String::from_str(alloc, "/")?,
-        };
         let url = format!(in alloc; "http://127.0.0.1:{port}/")?;
         measured.urls.push(url)?;
-        measured.jobs.push(job_of(site, target, measured.flags))?;
+        let job = own_job(alloc, site as u32, port, measured.flags)?;
+        measured.jobs.push(job)?;
     }
     Ok(())
+}
+
+// Makes the job of a site of the load's own server.
+fn own_job(alloc: Global, site: u32, port: u16, flags: MeasuredFlags) -> Result<Job, AllocError>
+    ensures { IfOk result (IsOwnJob flags site port) }
+{
+    let target = Target {
+        host: String::from_str(alloc, "127.0.0.1")?,
+        port,
+        path: String::from_str(alloc, "/")?,
+    };
+    Ok(job_of(site, target, flags))
 }
 
 /// The files that a load writes, if they are named.
@@ -110,7 +134,11 @@ fn load_sites<R: Threads + Wait + RandomSource + AllocGlobal + Sync>(
     measured: &MeasuredPlan,
     trace: &Option<String>,
     ports: &[u16],
-) -> Result<LoadOutcome, LoadFailure> {
+) -> Result<LoadOutcome, LoadFailure>
+    ensures { IfOk result (λ outcome. IsUnknownHost measured.now outcome
+        ⊎ ReportsMany polled_world options measured.now
+        (is_some trace.now) outcome) }
+{
     let sites = match LoadSites::of(system, alloc, &measured.jobs, &measured.resolved) {
         Ok(sites) => sites,
         Err(SiteFault::Memory) => return Err(OUT_OF_MEMORY.into()),
@@ -135,6 +163,8 @@ fn load_at<R: Threads + Wait + RandomSource + AllocGlobal + Sync>(
 ) -> Result<LoadOutcome, LoadFailure>
     requires trace { IfSome files.traced (λ output. output.file.failures ≡ 0) }
     requires picture { IfSome files.pictured (λ output. output.file.failures ≡ 0) }
+    ensures { IfOk result (ReportsMany polled_world options measured.now
+        (is_some files.entry.traced)) }
 {
     let progress = ProgressLine::new(system, !measured.flags.quiet && !measured.flags.no_progress);
     let keeps_logs = files.traced.is_some();
@@ -164,6 +194,7 @@ fn written(
 ) -> Result<LoadOutcome, LoadFailure>
     requires trace { IfSome files.traced (λ output. output.file.failures ≡ 0) }
     requires picture { IfSome files.pictured (λ output. output.file.failures ≡ 0) }
+    ensures { IfOk result (IsLoadOutcomeOf measured.now loaded.now) }
 {
     // There is a log for each site.
     if loaded.logs.len() > MOST_HOSTS as usize {
@@ -179,7 +210,10 @@ fn written(
 }
 
 // The outcome if the system does not know a host.
-fn unknown(alloc: Global, host: &str) -> Result<LoadOutcome, LoadFailure> {
+fn unknown(alloc: Global, host: &str) -> Result<LoadOutcome, LoadFailure>
+    ensures { (plan : MeasuredPlan) → IsUnknownSite plan host.now
+        → IfOk result (IsUnknownHost plan) }
+{
     let note = format!(in alloc; "run: unknown host {host}\n")?;
     Ok(LoadOutcome {
         report: String::new(alloc),
@@ -198,7 +232,10 @@ fn loaded_many<R: Threads + Wait + RandomSource + AllocGlobal + Sync>(
     sites: &LoadSites<'_>,
     keeps_logs: bool,
     progress: &ProgressLine<'_>,
-) -> Result<LoadedMany, LoadFault> {
+) -> Result<LoadedMany, LoadFault>
+    ensures { IfOk result (RunsMany polled_world options measured.now
+        keeps_logs) }
+{
     let numbers = measured.numbers;
     let Ok(addresses) = sites.addresses(alloc, options.workers) else {
         return Err(OUT_OF_MEMORY);
@@ -208,10 +245,7 @@ fn loaded_many<R: Threads + Wait + RandomSource + AllocGlobal + Sync>(
         hosts: sites.len(),
         addresses,
         urls: &measured.jobs,
-        jobs: match numbers.seconds {
-            Some(_) => None,
-            None => Some(options.jobs as u64),
-        },
+        jobs: jobs_of(options, numbers.seconds),
         connections: numbers.connections.unwrap_or(options.workers),
         times: LoadTimes {
             seconds: numbers.seconds,
@@ -228,7 +262,19 @@ fn loaded_many<R: Threads + Wait + RandomSource + AllocGlobal + Sync>(
     }
 }
 
-// The rate of `number` requests a second, if it is given.
-fn rate_of(number: Option<u32>) -> Option<Rate> {
+// Returns the number of jobs, unless the load ends after some seconds.
+fn jobs_of(options: LoadOptions, seconds: Option<u32>) -> Option<u64>
+    ensures { result ≡ jobs_planned options seconds }
+{
+    match seconds {
+        Some(_) => None,
+        None => Some(options.jobs as u64),
+    }
+}
+
+// Returns the rate of `number` requests a second, if it is given.
+fn rate_of(number: Option<u32>) -> Option<Rate>
+    ensures { per_second result ≡ positive number }
+{
     Rate::new(number?)
 }
