@@ -11,4 +11,5 @@ pub mod UrlJobs
 pub mod UnknownSites
 pub mod OwnJobs
 pub mod Outcomes
+pub mod SitePlaces
 pub mod Resolves

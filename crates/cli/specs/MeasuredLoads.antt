@@ -1,5 +1,6 @@
 -- Loads of many jobs at once: the plan of the run, its report and its status.
 use Rattle.std.specs.Prelude.{◌≡◌, ◌≢◌, ◌⊎◌, ◌↔◌, ◌+◌, ◌*◌, ◌<◌, ◌++◌, ℕ, zero, suc, Bool, IsTrue, false, codes, List, [], ◌∷◌, length, string_bytes, unwrap_or, ⊤, Option, None, Some}
+use Rattle.std.specs.List.{All}
 use Rattle.std.specs.Option.{option_map}
 use Rattle.clap.specs.Words.{Text}
 use Rattle.budget.specs.Limits.{bounds_of}
@@ -14,9 +15,10 @@ use Rattle.load_run.specs.Stopping.{MayStop}
 use Rattle.load_run.specs.declared.many.loading.LoadedMany.{LoadedMany}
 use Rattle.load_run.specs.declared.many.pace.Rate.{Rate}
 use Rattle.load_run.specs.declared.many.plan.ManyPlan.{ManyPlan}
+use Rattle.socket.specs.declared.addresses.Addresses.{Addresses}
 use Rattle.cli.specs.LoadStatuses.{load_status}
 use Rattle.cli.specs.MeasuredPlan.{url_job}
-use Rattle.cli.specs.MeasuredSites.{IsNameIn}
+use Rattle.cli.specs.MeasuredSites.{AreLocated, IsNameIn}
 use Rattle.cli.specs.declared.loading.measured.plan.MeasuredFlags.{MeasuredFlags}
 use Rattle.cli.specs.declared.loading.measured.plan.MeasuredPlan.{MeasuredPlan}
 use Rattle.cli.specs.declared.loading.options.LoadOptions.{LoadOptions}
@@ -42,6 +44,7 @@ pub record IsManyPlanOf (options : LoadOptions) (plan : MeasuredPlan) (keeps_log
   pub urls : many.urls.now ≡ plan.jobs.items
   pub jobs : many.jobs ≡ jobs_planned options plan.numbers.seconds
   pub threads : length many.addresses.items ≡ options.workers
+  pub located : All (λ (own : Addresses). AreLocated plan.jobs.items plan.resolved.items 0 own.hosts.items) many.addresses.items
   pub connections : many.connections ≡ unwrap_or plan.numbers.connections options.workers
   pub seconds : many.times.seconds ≡ plan.numbers.seconds
   pub warmup : many.times.warmup ≡ plan.numbers.warmup

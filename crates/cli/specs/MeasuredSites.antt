@@ -1,12 +1,17 @@
--- Sites of a load whose hosts the system does not know.
-use Rattle.std.specs.Prelude.{◌≡◌, List, string_bytes, None}
-use Rattle.std.specs.List.{Contains}
+-- The sites of a load, and their addresses.
+use Rattle.std.specs.Prelude.{◌≡◌, ◌⊎◌, ◌+◌, ℕ, List, [], ◌∷◌, string_bytes, Option, Some, None}
+use Rattle.std.specs.List.{AllZip, Contains}
+use Rattle.std.specs.Global.{Vec}
+use Rattle.std.specs.declared.net.socket_addr.SocketAddr.{SocketAddr}
 use Rattle.clap.specs.Words.{Text}
 use Rattle.client.specs.Hosts.{IsGivenAddress}
 use Rattle.client.specs.declared.resolved.Resolved.{Resolved}
 use Rattle.conn_key.specs.declared.target.Target.{Target}
 use Rattle.exchange.specs.declared.job.Job.{Job}
-use Rattle.socket.specs.Hosts.{HasNoAddress}
+use Rattle.socket.specs.Hosts.{HasNoAddress, Names}
+use Rattle.cli.specs.declared.loading.measured.sites.LoadSite.{LoadSite}
+use Rattle.cli.specs.declared.loading.measured.sites.Place.{Place}
+use Rattle.cli.specs.declared.loading.measured.sites.Place.TheVariants.{Own, Known}
 use Rattle.cli.specs.declared.loading.measured.sites.SiteFault.{SiteFault}
 use Rattle.cli.specs.declared.loading.measured.sites.SiteFault.TheVariants.{Memory, Unknown}
 
@@ -30,3 +35,59 @@ IsNameIn jobs resolved host = (job : Job) × Contains jobs job × IsNameOf job.t
 
 abbrev pub IsUnknownIn : List Job → List Resolved → SiteFault → Type 0
 IsUnknownIn jobs resolved fault = IfUnknown fault (IsNameIn jobs resolved)
+
+-- the address by `--resolve` of a target's host, if there is one
+abbrev pub GivenFor : Target → List Resolved → Option SocketAddr → Type 0
+GivenFor target resolved found = IsGivenAddress (string_bytes target.host) target.port resolved found
+
+-- the addresses of a target's host: the one by `--resolve`, else those that the host names, else those that the system
+-- returned for its name
+abbrev pub AreAddressesOf : List Resolved → Target → List SocketAddr → Type 0
+AreAddressesOf resolved target addresses =
+    ((given : SocketAddr) × GivenFor target resolved (Some given) × (addresses ≡ given ∷ []))
+    ⊎ (GivenFor target resolved None × (Names (string_bytes target.host) target.port addresses ⊎ HasNoAddress (string_bytes target.host)))
+
+-- the place of a site is that of its target's host
+abbrev pub IsPlaceOf : List Resolved → Target → Place → Type 0
+IsPlaceOf resolved target Own = GivenFor target resolved None
+IsPlaceOf resolved target (Known addresses) =
+    ((given : SocketAddr) × GivenFor target resolved (Some given) × (addresses.items ≡ given ∷ []))
+    ⊎ (GivenFor target resolved None × HasNoAddress (string_bytes target.host))
+
+-- the place has addresses that were looked up
+abbrev pub IsKnown : Place → Type 0
+IsKnown Own = ⊥
+IsKnown (Known addresses) = Unit {0}
+
+-- the site with that index is that of a job
+pub record IsSiteOf (jobs : List Job) (resolved : List Resolved) (index : ℕ) (site : LoadSite) : Type 0 where
+  pub job : Job
+  pub among : Contains jobs job
+  pub index_is : job.site ≡ index
+  pub target_is : site.target.now ≡ job.target
+  pub place_is : IsPlaceOf resolved job.target site.place
+
+-- the same for sites, the first of which has that index
+abbrev pub AreSitesOf : List Job → List Resolved → ℕ → List LoadSite → Type 0
+AreSitesOf jobs resolved index [] = Unit {0}
+AreSitesOf jobs resolved index (site ∷ sites) = IsSiteOf jobs resolved index site × AreSitesOf jobs resolved (index + 1) sites
+
+-- the addresses are those of the target at this place
+abbrev pub IsListAt : Target → Place → List SocketAddr → Type 0
+IsListAt target Own list = Names (string_bytes target.host) target.port list
+IsListAt target (Known known) list = list ≡ known.items
+
+abbrev pub IsListOf : LoadSite → Vec SocketAddr → Type 0
+IsListOf site addresses = IsListAt site.target.now site.place addresses.items
+
+-- a host with that index, of a job, has these addresses
+pub record IsLocated (jobs : List Job) (resolved : List Resolved) (index : ℕ) (addresses : Vec SocketAddr) : Type 0 where
+  pub job : Job
+  pub among : Contains jobs job
+  pub index_is : job.site ≡ index
+  pub are : AreAddressesOf resolved job.target addresses.items
+
+-- the same for hosts, the first of which has that index
+abbrev pub AreLocated : List Job → List Resolved → ℕ → List (Vec SocketAddr) → Type 0
+AreLocated jobs resolved index [] = Unit {0}
+AreLocated jobs resolved index (addresses ∷ hosts) = IsLocated jobs resolved index addresses × AreLocated jobs resolved (index + 1) hosts

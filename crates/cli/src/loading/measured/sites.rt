@@ -1,7 +1,11 @@
 //! The addresses of the sites that a load requests.
 
-ghost use Rattle.std.specs.Prelude.{◌≡◌, length, IfErr, IfOk};
-ghost use Rattle.cli.specs.MeasuredSites.{IfUnknown, IsUnknownAt, IsUnknownIn};
+ghost use Rattle.std.specs.Prelude.{◌≡◌, length, All, IfErr, IfOk, OnOk};
+ghost use Rattle.std.specs.List.{AllZip};
+ghost use Rattle.socket.specs.declared.addresses.Addresses.{Addresses};
+ghost use Rattle.cli.specs.MeasuredSites.{AreSitesOf, IfUnknown, IsKnown, IsListOf, IsPlaceOf};
+ghost use Rattle.cli.specs.MeasuredSites.{IsListAt, IsUnknownAt, IsUnknownIn};
+ghost use Rattle.socket.specs.Hosts.{AddsHost};
 
 use crate::command_line::resolving::system_addresses;
 use client::{Resolved, resolved_of};
@@ -54,11 +58,13 @@ impl<'a> LoadSites<'a> {
         jobs: &'a [Job],
         resolved: &[Resolved],
     ) -> Result<LoadSites<'a>, SiteFault<'a>>
-        ensures { IfErr result (IsUnknownIn jobs.now resolved.now) }
+        ensures sites { IfOk result (λ sites.
+            AreSitesOf jobs.now resolved.now 0 sites.sites.items) }
+        ensures unknown { IfErr result (IsUnknownIn jobs.now resolved.now) }
     {
         let mut sites: Vec<LoadSite<'a>> = Vec::new(alloc);
         for job in jobs {
-            if (job.site as usize) < sites.len() {
+            if job.site as usize != sites.len() {
                 continue;
             }
             let target = &job.target;
@@ -66,9 +72,9 @@ impl<'a> LoadSites<'a> {
                 Ok(place) => place,
                 Err(fault) => return Err(fault),
             };
-            if sites.push(LoadSite { target, place }).is_err() {
+            let Ok(()) = sites.push(LoadSite { target, place }) else {
                 return Err(SiteFault::Memory);
-            }
+            };
         }
         Ok(LoadSites { sites })
     }
@@ -104,7 +110,9 @@ impl<'a> LoadSites<'a> {
         alloc: Global,
         workers: u32,
     ) -> Result<Vec<Addresses>, AllocError>
-        ensures { IfOk result (λ all. length all.items ≡ workers) }
+        ensures count { IfOk result (λ all. length all.items ≡ workers) }
+        ensures each { IfOk result (λ all. All (λ (own : Addresses).
+            AllZip IsListOf self.now.sites.items own.hosts.items) all.items) }
     {
         let mut all = Vec::new(alloc);
         for _ in 0..workers {
@@ -115,23 +123,32 @@ impl<'a> LoadSites<'a> {
     }
 
     // Their addresses, once.
-    fn addresses_once(&self, alloc: Global) -> Result<Addresses, AllocError> {
+    fn addresses_once(&self, alloc: Global) -> Result<Addresses, AllocError>
+        ensures { IfOk result (λ own. AllZip IsListOf self.now.sites.items own.hosts.items) }
+    {
         let mut addresses = Addresses::new(alloc);
         for site in &self.sites {
-            match &site.place {
-                Place::Own => {
-                    if addresses.add(site.target).is_err() {
-                        return Err(AllocError);
-                    }
-                }
-                Place::Known(list) => {
-                    let mut copy = Vec::new(alloc);
-                    copy.extend_from_slice(list.as_slice())?;
-                    addresses.add_resolved(copy)?;
-                }
-            }
+            add_site(alloc, &mut addresses, site)?;
         }
         Ok(addresses)
+    }
+}
+
+// Adds the addresses of a site.
+fn add_site(alloc: Global, addresses: &mut Addresses, site: &LoadSite<'_>) -> Result<(), AllocError>
+    ensures { OnOk result (AddsHost addresses.old.hosts.items addresses.new.hosts.items
+        (IsListAt site.now.target.now site.now.place)) }
+{
+    match &site.place {
+        Place::Own => match addresses.add(site.target) {
+            Ok(()) => Ok(()),
+            Err(_) => Err(AllocError),
+        },
+        Place::Known(list) => {
+            let mut copy = Vec::new(alloc);
+            copy.extend_from_slice(list.as_slice())?;
+            addresses.add_resolved(copy)
+        }
     }
 }
 
@@ -142,7 +159,8 @@ fn place_of<'a>(
     target: &'a Target,
     resolved: &[Resolved],
 ) -> Result<Place, SiteFault<'a>>
-    ensures { IfErr result (IsUnknownAt target.now resolved.now) }
+    ensures place { IfOk result (IsPlaceOf resolved.now target.now) }
+    ensures unknown { IfErr result (IsUnknownAt target.now resolved.now) }
 {
     let host = target.host.as_str();
     if let Some(address) = resolved_of(resolved, host, target.port) {
@@ -165,7 +183,8 @@ fn looked_up<'a>(
     host: &'a str,
     port: u16,
 ) -> Result<Place, SiteFault<'a>>
-    ensures { IfErr result (λ fault. IfUnknown fault (λ name. name ≡ host.now)) }
+    ensures known { IfOk result IsKnown }
+    ensures unknown { IfErr result (λ fault. IfUnknown fault (λ name. name ≡ host.now)) }
 {
     match system_addresses(system, alloc, host, port) {
         Ok(addresses) if addresses.is_empty() => Err(SiteFault::Unknown(host)),

@@ -7,6 +7,7 @@ ghost use Rattle.cli.specs.MeasuredLoads.{AddsOwn, HasOutcome, IsLoadOutcomeOf, 
 ghost use Rattle.cli.specs.MeasuredLoads.{IsOwnJob, IsUnknownSite, ReportsMany, RunsMany};
 ghost use Rattle.cli.specs.MeasuredLoads.{jobs_planned};
 ghost use Rattle.cli.specs.MeasuredLoads.{per_second, positive};
+ghost use Rattle.cli.specs.MeasuredSites.{AreSitesOf};
 ghost use Rattle.cli.specs.declared.loading.measured.plan.MeasuredPlan.{MeasuredPlan};
 
 use crate::loading::failure::LoadFailure;
@@ -163,6 +164,8 @@ fn load_at<R: Threads + Wait + RandomSource + AllocGlobal + Sync>(
 ) -> Result<LoadOutcome, LoadFailure>
     requires trace { IfSome files.traced (λ output. output.file.failures ≡ 0) }
     requires picture { IfSome files.pictured (λ output. output.file.failures ≡ 0) }
+    requires sites { AreSitesOf measured.now.jobs.items measured.now.resolved.items 0
+        sites.now.sites.items }
     ensures { IfOk result (ReportsMany polled_world options measured.now
         (is_some files.entry.traced)) }
 {
@@ -233,8 +236,9 @@ fn loaded_many<R: Threads + Wait + RandomSource + AllocGlobal + Sync>(
     keeps_logs: bool,
     progress: &ProgressLine<'_>,
 ) -> Result<LoadedMany, LoadFault>
-    ensures { IfOk result (RunsMany polled_world options measured.now
-        keeps_logs) }
+    requires { AreSitesOf measured.now.jobs.items measured.now.resolved.items 0
+        sites.now.sites.items }
+    ensures { IfOk result (RunsMany polled_world options measured.now keeps_logs) }
 {
     let numbers = measured.numbers;
     let Ok(addresses) = sites.addresses(alloc, options.workers) else {

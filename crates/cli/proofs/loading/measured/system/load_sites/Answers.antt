@@ -9,6 +9,6 @@ pub returns-in-Err-Unknown : goal.returns-in-Err-Unknown
 returns-in-Err-Unknown g c =
     let jobs = c.args.measured.now.jobs.items in
     let resolved = c.args.measured.now.resolved.items in
-    let unknown = unknown_of jobs c.deref.result.now resolved c.deref-2.result.now c.in-Err-Unknown.field-0 c.deref.ensures.value c.deref-2.ensures.value c.in-Err-Unknown.ensures in
+    let unknown = unknown_of jobs c.deref.result.now resolved c.deref-2.result.now c.in-Err-Unknown.field-0 c.deref.ensures.value c.deref-2.ensures.value c.in-Err-Unknown.ensures.unknown in
     let known = subst (λ (fault : SiteFault). IsUnknownIn jobs resolved fault) c.in-Err-Unknown.field-0-is unknown in
     if_ok_left c.unknown.result _ _ (c.unknown.ensures c.args.measured.now (subst (IsNameIn jobs resolved) (sym (ap (λ host. host.now) c.in-Err-Unknown.host-is)) known))
