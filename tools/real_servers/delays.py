@@ -2,6 +2,7 @@
 
 A response that arrived within the time limit counts, even if the program reads it later.
 """
+import json
 import os
 import re
 import signal
@@ -131,6 +132,35 @@ def stops_after(count):
     return behave
 
 
+def latencies(behaviour, words):
+    """The latencies of a load of four requests in one thread, in microseconds; none if it failed."""
+    with Server(behaviour) as server:
+        run = programs.load(["--url", f"http://127.0.0.1:{server.port}/7", "--jobs", "4", "--workers", "1", "--json", "--quiet",
+                             *words])
+    return json.loads(run.output)["latency_us"] if run.status == 0 else None
+
+
+def late_body(connection):
+    """Sends each head at once, and its body 0.3 seconds later."""
+    for request in connection.requests():
+        whole = servers.counted(request.number)
+        connection.send(whole[:-request.number])
+        time.sleep(0.3)
+        connection.send(whole[-request.number:])
+
+
+def whole_latency():
+    """A latency ends with the last byte of the body."""
+    found = latencies(late_body, ["--connections", "4"])
+    return None if found and found["p50"] >= 290_000 else f"{found}"
+
+
+def waiting_latency():
+    """A latency begins with the request, and not with its connection: the fourth waits for three others."""
+    found = latencies(servers.takes(0.2), ["--connections", "4", "--total", "1"])
+    return None if found and found["max"] >= 780_000 and found["p50"] >= 380_000 else f"{found}"
+
+
 def nobody_listens():
     """A load without one good response fails."""
     with nobody() as port:
@@ -173,6 +203,8 @@ def foreign_descriptor():
 def all_delays():
     yield Delay("get --parallel: its output is not read for longer than the time limit", blocked_reader)
     yield Delay("load: suspended for longer than the time limit", stopped_load)
+    yield Delay("load: latencies of late bodies", whole_latency)
+    yield Delay("load: latencies of requests that wait for a connection", waiting_latency)
     yield Delay("load: Ctrl-C while only the last request is in flight", late_interrupt)
     yield Delay("load: the server stops answering", outage)
     yield Delay("load: a request is due at the end", end_of_a_rate)

@@ -17,6 +17,8 @@ SECONDS = 60
 # how long requests of a group wait for the others, in seconds
 PATIENCE = 20
 NAME = "somewhere.invalid"
+# a cache has 1,024 places
+HOSTS = 1_100
 
 
 class Recording:
@@ -167,6 +169,20 @@ def for_seconds():
     return None if run.status == 0 and 2 <= took < 20 else f"{took:.1f} seconds; {run}"
 
 
+def many_hosts():
+    """More hosts than a cache has places: each has its URL."""
+    names = [f"n{number}.invalid" for number in range(1, HOSTS + 1)]
+    with Server(servers.lasts) as server, tempfile.NamedTemporaryFile("w", encoding="utf8", suffix=".urls") as file:
+        file.writelines(f"{url_of(server, number, name)}\n" for number, name in enumerate(names, 1))
+        file.flush()
+        addresses = [word for name in names for word in ("--resolve", f"{name}:{server.port}:127.0.0.1")]
+        run = programs.get(["--parallel", "4", "--file", file.name, *addresses])
+        lines = {f"200 {number} new {url_of(server, number, name)}" for number, name in enumerate(names, 1)}
+    if run.status != 0 or set(run.output.splitlines()) != lines:
+        return f"{len(run.output.splitlines())} lines; status {run.status}, {run.errors[-200:]!r}"
+    return None
+
+
 def in_a_file():
     """URLs of a file come after those of the command line, each once."""
     behaviour = Recording()
@@ -198,6 +214,7 @@ def all_options():
                 or accepted(get_all, ["--max-life", "60"], 1))
     yield Delay("get --max-age, at the server", idle)
     yield Delay("get --file, at the server", in_a_file)
+    yield Delay("get --resolve, of more hosts than places, at the server", many_hosts)
     yield Delay("load --forbid-reuse, at the server", lambda: accepted(load_all, ["--forbid-reuse"], 3))
     yield Delay("load --rate, at the server", paced)
     yield Delay("load --warmup, at the server", warmed_up)
