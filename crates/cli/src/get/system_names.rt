@@ -74,7 +74,7 @@ fn names_host(word: &str) -> bool {
     }
 }
 
-/// Looks up names in the system, on threads if there are any, so that transfers go on.
+/// Looks up names in the system, on threads if there are any, during transfers.
 #[derive(Drop)]
 pub struct SystemNames<'s, 'a: 's, H: Wait> {
     alloc: Global,
