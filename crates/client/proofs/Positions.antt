@@ -13,6 +13,7 @@ use Rattle.script_run.specs.Streams.{Stream}
 use Rattle.client.specs.Crawling.{AreAccounted, CrawlGiven, IsAt, queue_given}
 use Rattle.client.specs.FileLines.{nothing_read}
 use Rattle.client.specs.Lines.{Text}
+use Rattle.client.specs.Urls.{IsBadText}
 use Rattle.client.specs.Reading.{QueueShown, Reads, TakesOut}
 use Rattle.client.specs.Steps.{HasJob, IsEndOf, IsJobOf, IsOfResult}
 use Rattle.client.specs.Written.{AreWritten, BeginsAll, OutputShown, TakesShown, WritesBad, tally_of, url_in_flight, urls_in_flight, urls_written}
@@ -70,14 +71,14 @@ module _ (crawl : CrawlGiven) (jobs : List Job) (results : List JobResult) (firs
   shown_same queue old new same at = subst (λ (now : OutputShown). IsAt crawl jobs results first source queue now) (sym same) at
 
   -- the line of a bad URL is written
-  pub at_bad : (url : Text) (old new : QueueShown) (before after : OutputShown) → crawl.options.flags.skip_bad ≡ true → (crawl.options.parallel ≡ 1 → before.in_flight ≡ []) → IsAt crawl jobs results first source old before
+  pub at_bad : (url : Text) (old new : QueueShown) (before after : OutputShown) → crawl.options.flags.skip_bad ≡ true → ∥ IsBadText url ∥₁ → (crawl.options.parallel ≡ 1 → before.in_flight ≡ []) → IsAt crawl jobs results first source old before
       → TakesOut (url ∷ []) old new → WritesBad url before after → IsAt crawl jobs results first source new after
-  at_bad url old new before after skips idle at takes w =
+  at_bad url old new before after skips bad idle at takes w =
       let a = at.accounted in
       let urls = urls_written a.lines in
       let flying = urls_in_flight before.in_flight in
       let more = urls_more a.lines w.line url w.its_url in
-      let its_end : IsOfResult crawl.options jobs results w.line = subst (IsEndOf crawl.options jobs results w.line.url) (sym w.bad) skips in
+      let its_end : IsOfResult crawl.options jobs results w.line = subst (IsEndOf crawl.options jobs results w.line.url) (sym w.bad) (skips, subst (λ (t : Text). ∥ IsBadText t ∥₁) (sym w.its_url) bad) in
       let moved : IsPermutation (flying ++ old.queued) (url ∷ (flying ++ new.queued)) =
       IsPermutation-trans (flying ++ old.queued) (flying ++ url ∷ new.queued) (url ∷ (flying ++ new.queued))
       (IsPermutation-append_right flying old.queued (url ∷ new.queued) takes.each) (IsPermutation-middle flying url new.queued) in

@@ -12,6 +12,8 @@ use Rattle.client.specs.Hosts.{AreAwaited, KeepsAwaited, is_awaited}
 use Rattle.client.specs.Lines.{Text}
 use Rattle.client.specs.FileLines.{LinesShown, TakesLine}
 use Rattle.client.specs.Reading.{AddsUrl, QueueShown, Reads, TakesOut, url_queued, urls_queued}
+use Rattle.client.specs.Urls.{IsBadText}
+use Rattle.client.specs.declared.crawl.route.Route.TheVariants.{Bad}
 use Rattle.client.specs.Windows.{Begins, BeginsOrWaits, Waits}
 use Rattle.client.specs.Steps.{IsJobOf}
 use Rattle.client.specs.Written.{url_in_flight, urls_in_flight}
@@ -101,6 +103,10 @@ none_left (url ∷ urls) none = absurd (omega (arith, none))
 pub none_queued : (queued : List Queued) → length queued ≡ 0 → urls_queued queued ≡ []
 none_queued [] none = refl
 none_queued (one ∷ queued) none = absurd (omega (arith, none))
+
+-- a URL without a target is bad
+pub bad_text : (one : Queued) → one.route ≡ Bad → ∥ IsBadText (string_bytes one.url) ∥₁
+bad_text one is = rw is at one.leads
 
 -- one URL is taken out of a queue, in front if it was there
 pub takes_at : (old new : List Queued) (place : ℕ) (one : Queued) → place < length old → one ≡ get_or old place one → new ≡ remove old place → IsPermutation (urls_queued old) (url_queued one ∷ urls_queued new)

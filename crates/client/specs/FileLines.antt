@@ -72,6 +72,11 @@ urls_returned Skipped = Some []
 urls_returned Unread = None
 urls_returned Over = None
 
+-- this is true of the text of a bad line
+abbrev pub IfBad : (Text → Type 0) → Line → Type 0
+IfBad P (Bad url number) = P (string_bytes url)
+IfBad P line = Unit {0}
+
 -- this line is next
 abbrev pub IsNextLine : Line → LinesShown → LinesShown → Type 0
 IsNextLine (Url url number) old new = TakesLine (string_bytes url ∷ []) old new

@@ -1,10 +1,11 @@
 -- The targets of URLs.
 use Rattle.std.specs.Prelude.{ℕ, List}
 use Rattle.conn_key.specs.Target.{GivesTarget}
+use Rattle.client.specs.Urls.{IsBadText}
 use Rattle.client.specs.declared.crawl.route.Route.{Route}
 use Rattle.client.specs.declared.crawl.route.Route.TheVariants.{To, Bad}
 
--- a URL leads to this target, unless it is bad
+-- a URL leads to this target, or it is bad
 abbrev pub LeadsAs : List ℕ → Route → Type 0
 LeadsAs url (To target) = GivesTarget url target
-LeadsAs url Bad = Unit {0}
+LeadsAs url Bad = IsBadText url

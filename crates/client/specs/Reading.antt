@@ -3,6 +3,7 @@ use Rattle.std.specs.Prelude.{◌≡◌, ◌++◌, ◌∷◌, [], ℕ, List, map
 use Rattle.std.specs.List.Sorted.{IsPermutation}
 use Rattle.client.specs.FileLines.{KnowsEnd, LinesShown, ReadsFile, lines_shown}
 use Rattle.client.specs.Lines.{Text}
+use Rattle.client.specs.Urls.{IsBadText}
 use Rattle.client.specs.declared.crawl.queue.Queue.{Queue}
 use Rattle.client.specs.declared.crawl.queued.Queued.{Queued}
 use Rattle.client.specs.declared.options.CrawlOptions.{CrawlOptions}
@@ -74,3 +75,4 @@ pub record TakesBad (is_idle : Bool) (url : Text) (old new : QueueShown) : Type 
   pub takes : TakesOut (url ∷ []) old new
   pub skips : old.options.flags.skip_bad ≡ true
   pub idle : old.options.parallel ≡ 1 → is_idle ≡ true
+  pub bad : ∥ IsBadText url ∥₁

@@ -6,6 +6,7 @@ use Rattle.conn_log.specs.declared.entry.Want.{Want}
 use Rattle.exchange.specs.declared.job.Job.{Job}
 use Rattle.run_loop.specs.Taking.{JobResult}
 use Rattle.client.specs.Lines.{Text}
+use Rattle.client.specs.Urls.{IsBadText}
 use Rattle.client.specs.Written.{Written}
 use Rattle.client.specs.declared.crawl.in_flight.InFlight.{InFlight}
 use Rattle.client.specs.declared.options.CrawlOptions.{CrawlOptions}
@@ -36,9 +37,9 @@ pub record IsResultOf (options : CrawlOptions) (jobs : List Job) (results : List
   pub method : job.method ≡ options.method
   pub target : ∥ GivesTarget url job.target ∥₁
 
--- the same for the result of a line; a bad URL has a line only if bad URLs are skipped
+-- the same for the result of a line; a line without a result is of a bad URL, and only if bad URLs are skipped
 abbrev pub IsEndOf : CrawlOptions → List Job → List JobResult → Text → Option JobResult → Type 0
-IsEndOf options jobs results url None = options.flags.skip_bad ≡ true
+IsEndOf options jobs results url None = (options.flags.skip_bad ≡ true) × ∥ IsBadText url ∥₁
 IsEndOf options jobs results url (Some result) = IsResultOf options jobs results url result
 
 abbrev pub IsOfResult : CrawlOptions → List Job → List JobResult → Written → Type 0

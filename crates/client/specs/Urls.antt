@@ -1,7 +1,8 @@
 -- URLs that can be fetched.
-use Rattle.std.specs.Prelude.{◌≡◌, ◌≢◌, ◌⊎◌, ℕ, true, false, List}
+use Rattle.std.specs.Prelude.{◌≡◌, ◌≢◌, ◌⊎◌, ◌<◌, ℕ, true, false, List, length, take, IsUtf8}
 use Rattle.std.specs.List.{list_any}
 use Rattle.std.specs.Str.{chars}
+use Rattle.std.specs.Str.Lossy.{utf8_lossy}
 use Rattle.conn_key.specs.Target.{Refuses}
 use Rattle.conn_key.specs.declared.target.KeyError.{KeyError}
 use Rattle.conn_key.specs.declared.target.KeyError.TheVariants.{Memory}
@@ -16,6 +17,17 @@ IsPrintable text = list_any is_unprintable (chars text) ≡ false
 -- the text is no URL that leads to a target; or it has a control character
 abbrev pub IsBadUrl : List ℕ → Type 0
 IsBadUrl url = ((error : KeyError) × Refuses url error × (error ≢ Memory)) ⊎ (list_any is_unprintable (chars url) ≡ true)
+
+-- a line of a file that is no URL: it has more than 2,048 bytes, or is not UTF-8. Its text is that of its first 2,048
+-- bytes, with U+FFFD for each byte that is not UTF-8
+pub record IsBadLine (text : List ℕ) : Type 0 where
+  pub line : List ℕ
+  pub text_is : text ≡ utf8_lossy (take 2048 line)
+  pub bad : (2048 < length line) ⊎ (IsUtf8 line → ⊥)
+
+-- the text of a bad URL, or of a bad line
+abbrev pub IsBadText : List ℕ → Type 0
+IsBadText text = IsBadUrl text ⊎ IsBadLine text
 
 -- a URL that is refused is bad, if memory did not run out
 abbrev pub IsUrlFault : List ℕ → UrlFault → Type 0

@@ -3,7 +3,10 @@
 ghost use Rattle.std.specs.Prelude.{◌≡◌, ◌<◌, [], true, Some, length, take, IfOk, OnOk};
 ghost use Rattle.std.specs.Str.Lines.{strip_carriage_return};
 ghost use Rattle.script_run.specs.Streams.{CanCount};
-ghost use Rattle.client.specs.FileLines.{HasNoLine, IsNextLine, NeedsMore, ReadsFile};
+ghost use Rattle.std.specs.Prelude.{string_bytes};
+ghost use Rattle.std.specs.Str.Lossy.{utf8_lossy};
+ghost use Rattle.client.specs.Urls.{IsBadLine};
+ghost use Rattle.client.specs.FileLines.{HasNoLine, IfBad, IsNextLine, NeedsMore, ReadsFile};
 ghost use Rattle.client.specs.FileLines.{is_skipped, lines_shown, nothing_read, urls_on};
 ghost use Rattle.client.specs.FileLines.{urls_returned};
 
@@ -78,8 +81,9 @@ impl UrlLines {
     ///
     /// There is no memory for it.
     pub(crate) fn next(&mut self, alloc: Global) -> Result<Line, AllocError>
-        ensures { IfOk result (λ line. IsNextLine line (lines_shown self.old)
+        ensures next { IfOk result (λ line. IsNextLine line (lines_shown self.old)
             (lines_shown self.new)) }
+        ensures bad { IfOk result (IfBad IsBadLine) }
     {
         let rest = self.pending();
         let end = place_of(b'\n', rest);
@@ -170,7 +174,8 @@ fn piece(alloc: Global) -> Result<Vec<u8>, AllocError>
 
 // Returns the kind of a line without its line feed.
 fn line_of(alloc: Global, line: &[u8], number: u64) -> Result<Line, AllocError>
-    ensures { IfOk result (λ one. urls_returned one ≡ Some (urls_on line.now)) }
+    ensures urls { IfOk result (λ one. urls_returned one ≡ Some (urls_on line.now)) }
+    ensures bad { IfOk result (IfBad IsBadLine) }
 {
     let line = without_return(line);
     if is_skipped(line) {
@@ -180,8 +185,17 @@ fn line_of(alloc: Global, line: &[u8], number: u64) -> Result<Line, AllocError>
         Ok(url) if line.len() <= MOST_BYTES => {
             Ok(Line::Url(String::from_str(alloc, url)?, number))
         }
-        _ => Ok(Line::Bad(String::from_utf8_lossy(alloc, front(line))?, number)),
+        Ok(_) => Ok(Line::Bad(lossy_front(alloc, line)?, number)),
+        Err(_) => Ok(Line::Bad(lossy_front(alloc, line)?, number)),
     }
+}
+
+// Returns the text of the first bytes of a line, as many as a URL may have. Bytes that are not UTF-8
+// become U+FFFD.
+fn lossy_front(alloc: Global, line: &[u8]) -> Result<String, AllocError>
+    ensures { IfOk result (λ text. string_bytes text ≡ utf8_lossy (take 2048 line.now)) }
+{
+    String::from_utf8_lossy(alloc, front(line))
 }
 
 // The line without a CR at its end.

@@ -55,7 +55,9 @@ pub(crate) struct Queue {
 impl Queue {
     ghost use Rattle.std.specs.Prelude.{◌≡◌, ◌≢◌, ◌++◌, ◌∷◌, ◌-◌, ◌<◌, ◌≤◌, [], true, None, All};
     ghost use Rattle.std.specs.Prelude.{ℕ, List, Option};
-    ghost use Rattle.std.specs.List.{AllZip};
+    ghost use Rattle.std.specs.List.{AllZip, HoldsAt};
+    ghost use Rattle.client.specs.Urls.{IsBadText};
+    ghost use Rattle.client.specs.declared.crawl.route.Route.TheVariants.{Bad};
     ghost use Rattle.std.specs.Prelude.{length, option_to_list, string_bytes};
     ghost use Rattle.std.specs.Prelude.{IfErr, IfNone, IfOk, IfSome, OnOk, OnSome};
     ghost use Rattle.script_run.specs.Streams.{CanCount};
@@ -251,12 +253,14 @@ impl Queue {
                 self.push(Queued { url, route })
             }
             Err(UrlFault::Memory) => Err(AllocError),
-            Err(_) => self.add_bad(url, line),
+            Err(UrlFault::Unprintable) => self.add_bad(url, line),
+            Err(UrlFault::NoTarget(_)) => self.add_bad(url, line),
         }
     }
 
     // Adds a bad URL to the queue. It ends the crawl unless bad URLs are skipped.
     fn add_bad(&mut self, url: String, line: u64) -> Result<bool, AllocError>
+        requires bad { ∥ IsBadText (string_bytes url) ∥₁ }
         ensures added { OnOk result (AddsUrl (string_bytes url) (queue_shown self.old)
             (queue_shown self.new)) }
         ensures hosts { KeepsHosts self.old self.new }
@@ -301,12 +305,28 @@ impl Queue {
     fn next_bad(&self, is_idle: bool) -> Option<usize>
         ensures idle { OnSome result (self.now.options.parallel ≡ 1 → is_idle ≡ true) }
         ensures first { IfSome result (λ place. self.now.options.parallel ≡ 1 → place ≡ 0) }
+        ensures bad { IfSome result (HoldsAt (λ one. one.route ≡ Bad) self.now.queued.items) }
     {
         if self.options.parallel == 1 {
-            let is_next = is_idle && self.queued.front().is_some_and(|one| one.is_bad());
+            let is_next = is_idle && self.is_bad_at(0);
             return is_next.then_some(0);
         }
-        self.queued.iter().position(|one| one.is_bad())
+        for place in 0..self.queued.len() {
+            if self.is_bad_at(place) {
+                return Some(place);
+            }
+        }
+        None
+    }
+
+    // True if the queued URL at that place is bad.
+    fn is_bad_at(&self, place: usize) -> bool
+        ensures { result ≡ true → HoldsAt (λ one. one.route ≡ Bad) self.now.queued.items place }
+    {
+        match self.queued.get(place) {
+            Some(one) => one.is_bad(),
+            None => false,
+        }
     }
 
     /// Records the answers of look-ups that have arrived.

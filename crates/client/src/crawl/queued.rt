@@ -1,6 +1,7 @@
 //! URLs that were read.
 
-ghost use Rattle.std.specs.Prelude.{string_bytes};
+ghost use Rattle.std.specs.Prelude.{◌≡◌, true, string_bytes};
+ghost use Rattle.client.specs.declared.crawl.route.Route.TheVariants.{Bad};
 ghost use Rattle.client.specs.Leading.{LeadsAs};
 
 use crate::crawl::route::Route;
@@ -16,7 +17,12 @@ pub(crate) struct Queued {
 
 impl Queued {
     /// True if the URL is bad.
-    pub(crate) fn is_bad(&self) -> bool {
-        matches!(self.route, Route::Bad)
+    pub(crate) fn is_bad(&self) -> bool
+        ensures { result ≡ true → self.now.route ≡ Bad }
+    {
+        match self.route {
+            Route::Bad => true,
+            Route::To(_) => false,
+        }
     }
 }

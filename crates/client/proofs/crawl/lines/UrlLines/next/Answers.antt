@@ -6,8 +6,8 @@ use Rattle.client.proofs.FileLines.{next_line, no_end, place_after, some_left}
 use Rattle.client.proofs.crawl.lines.UrlLines.next.Goals.{else-end-rest-via-then-end-rest+else-not-self, else-end-rest-via-else-end-rest}
 use Rattle.client.proofs.crawl.lines.UrlLines.next.Goals as goal
 
-pub returns-then-not-self : goal.returns-then-not-self
-returns-then-not-self c = (
+pub returns-then-not-self-clause-next : goal.returns-then-not-self-clause-next
+returns-then-not-self-clause-next c = (
   refl,
   record {
     has_more = c.if-not-self.true;
@@ -16,8 +16,8 @@ returns-then-not-self c = (
   },
 )
 
-pub returns : goal.returns
-returns c =
+pub returns-clause-next : goal.returns-clause-next
+returns-clause-next c =
     let old = lines_shown c.args.self.now in
     let n = c.place_of-end.result in
     let rest = c.pending-rest.ensures in
@@ -29,7 +29,7 @@ returns c =
     ] in
     let some : 0 < length old.pending = some_left old.pending c.is_empty.result (c.is_empty.ensures ∙ ap (λ (l : List ℕ). length l == 0) rest) c.if-is_empty.false in
     let few : length c.args.self.now.bytes.items < 18446744073709551615 = omega arith in
-    next_line c.in_ok-line.line old _ n (c.in_ok-line.ensures ∙ ap (λ (l : List ℕ). Some (urls_on l)) (c.split_at.ensures.front ∙ ap (take n) rest))
+    next_line c.in_ok-line.line old _ n (c.in_ok-line.ensures.urls ∙ ap (λ (l : List ℕ). Some (urls_on l)) (c.split_at.ensures.front ∙ ap (take n) rest))
     (c.place_of-end.ensures.value ∙ ap (position_or_len ends_line) rest) within there
     (place_after c.args.self.now.bytes.items c.args.self.now.from n 18446744073709551615 c.saturating_add-self.result within some few
     (c.saturating_add-self.ensures ∙ ap (λ (k : ℕ). min (k + 1) 18446744073709551615) c.saturating_add.ensures)) refl

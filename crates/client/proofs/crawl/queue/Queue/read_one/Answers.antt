@@ -29,7 +29,7 @@ returns-in-Ok-Url-clause-reads g c =
     let was : old.left ≡ [] = none_left c.args.self.now.urls.items (sym c.args.self.now.urls.ok.0 ∙ none.0) in
     let is : mid.left ≡ [] = none_left c.pop.new.self.items (sym c.pop.new.self.ok.0 ∙ none.1) in
     let has : old.file ≢ files.None = λ p. (let e = rw p at c.eq.ensures in cc (sym e ∙ c.if-eq.false)) in
-    let takes = subst (λ (line : Line). IsNextLine line old.lines mid.lines) c.in-Ok-Url.field-0-is c.in-Ok-Url.ensures in
+    let takes = subst (λ (line : Line). IsNextLine line old.lines mid.lines) c.in-Ok-Url.field-0-is c.in-Ok-Url.ensures.next in
     on_ok c.add-in-Ok-Url.result (AddsUrl url mid new) (Reads old new source source) (λ adds. reads_url old mid new url source was has (same_words old mid.lines mid.left was is) takes adds) c.add-in-Ok-Url.ensures.added
 
 pub returns-in-Ok-Bad-clause-reads : goal.returns-in-Ok-Bad-clause-reads
@@ -43,5 +43,8 @@ returns-in-Ok-Bad-clause-reads g c =
     let was : old.left ≡ [] = none_left c.args.self.now.urls.items (sym c.args.self.now.urls.ok.0 ∙ none.0) in
     let is : mid.left ≡ [] = none_left c.pop.new.self.items (sym c.pop.new.self.ok.0 ∙ none.1) in
     let has : old.file ≢ files.None = λ p. (let e = rw p at c.eq.ensures in cc (sym e ∙ c.if-eq.false)) in
-    let takes = subst (λ (line : Line). IsNextLine line old.lines mid.lines) c.in-Ok-Bad.field-0-is c.in-Ok-Bad.ensures in
+    let takes = subst (λ (line : Line). IsNextLine line old.lines mid.lines) c.in-Ok-Bad.field-0-is c.in-Ok-Bad.ensures.next in
     on_ok c.add_bad.result (AddsUrl url mid new) (Reads old new source source) (λ adds. reads_url old mid new url source was has (same_words old mid.lines mid.left was is) takes adds) c.add_bad.ensures.added
+
+pub returns-in-Ok-Bad-clause-counts_on : goal.returns-in-Ok-Bad-clause-counts_on
+returns-in-Ok-Bad-clause-counts_on g c = on_ok c.add_bad.result (AddsUrl (string_bytes c.in-Ok-Bad.url) _ (queue_shown c.add_bad.new.self)) _ (λ adds none. c.requires.counts) c.add_bad.ensures.added

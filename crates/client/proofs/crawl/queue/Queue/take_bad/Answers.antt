@@ -1,6 +1,8 @@
 -- A URL that is bad is taken out.
-use Rattle.std.proofs.Common.{◌<◌, length, refl, rules}
-use Rattle.client.proofs.Queues.{takes_at, takes_first}
+use Rattle.std.proofs.Common.{◌≡◌, ◌<◌, length, refl, rules, subst, sym}
+use Rattle.client.specs.declared.crawl.queued.Queued.{Queued}
+use Rattle.client.specs.declared.crawl.route.Route.TheVariants.{Bad}
+use Rattle.client.proofs.Queues.{bad_text, takes_at, takes_first}
 use Rattle.client.proofs.crawl.queue.Queue.take_bad.Goals as goal
 
 pub returns-clause-takes : goal.returns-clause-takes
@@ -21,4 +23,5 @@ returns-clause-takes c =
       };
       skips = search rules;
       idle = c.in_ok-place.ensures.idle;
+      bad = bad_text one (subst (λ (q : Queued). q.route ≡ Bad) (sym c.in_ok-url.ensures.value) (c.in_ok-place.ensures.bad one));
     }
