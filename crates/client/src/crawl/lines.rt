@@ -190,8 +190,8 @@ fn line_of(alloc: Global, line: &[u8], number: u64) -> Result<Line, AllocError>
     }
 }
 
-// Returns the text of the first bytes of a line, as many as a URL may have. Bytes that are not UTF-8
-// become U+FFFD.
+// Returns the text of the first bytes of a line, as many as a URL may have. Bytes that are not
+// UTF-8 become U+FFFD.
 fn lossy_front(alloc: Global, line: &[u8]) -> Result<String, AllocError>
     ensures { IfOk result (λ text. string_bytes text ≡ utf8_lossy (take 2048 line.now)) }
 {
