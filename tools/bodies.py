@@ -394,16 +394,26 @@ def try_round(checker, together, kept, has_control):
     return [Tried(edit.name, wrong or verdicts.wrong_with(edit), share) for edit in together]
 
 
+def try_together(checker, together, kept, has_control):
+    """Tries edits at once: the result of each. What calls a function that another of them has refused is not proved
+    itself, so those that show too little are tried again without the others, or, if no other was shown, each alone."""
+    found = try_round(checker, together, kept, has_control)
+    left = [edit for edit, one in zip(together, found, strict=True) if one.wrong]
+    if not left or len(together) == 1:
+        return found
+    parts = [left] if len(left) < len(together) else [[edit] for edit in left]
+    again = [one for part in parts for one in try_together(checker, part, kept, has_control)]
+    spent = {one.edit: one.seconds for one in found}
+    shown = [one for one in found if not one.wrong]
+    return shown + [one._replace(seconds=one.seconds + spent[one.edit]) for one in again]
+
+
 def try_edits(checker, crate, kind, has_control=False):
-    """Tries all edits of a crate in the folder of that kind: the result of each. A round of several edits that shows
-    too little is tried again, each edit alone."""
+    """Tries all edits of a crate in the folder of that kind: the result of each."""
     good, tried = read_edits(crate, kind)
     rounds = rounds_of(good)
     with tempfile.TemporaryDirectory(prefix="curlpool-kept-") as folder:
         kept = folder if len(rounds) > 1 else None
         for together in rounds:
-            found = try_round(checker, together, kept, has_control)
-            if len(together) > 1 and any(one.wrong for one in found):
-                found = [one for edit in together for one in try_round(checker, [edit], kept, has_control)]
-            tried += found
+            tried += try_together(checker, together, kept, has_control)
     return tried
