@@ -43,7 +43,7 @@ pub fn report_of(alloc: Global, hosts: &[HostCount], results: &[Done]) -> Result
     report_with(alloc, hosts, JobSums::of(results))
 }
 
-/// The same of transfers whose results were summed up before.
+/// Returns the same report, of transfers whose results are summed up already.
 pub fn report_with(alloc: Global, hosts: &[HostCount], sums: JobSums) -> Result<String, Refusal>
     ensures text { IfOk result (λ text. string_bytes text ≡ lines_text hosts.now sums) }
     ensures memory { IfErr result (λ refusal. refusal ≡ Refusal.Memory) }

@@ -37,8 +37,7 @@ impl JobSums {
     }
 }
 
-/// The sums of what happened at all hosts. Each is at most 18,446,744,073,709,551,615, which stands
-/// for a greater one too.
+/// Returns the sums of the counts of all hosts, each at most 18,446,744,073,709,551,615.
 pub fn totals(hosts: &[HostCount]) -> HostCount
     ensures { result ≡ totals hosts.now }
 {
@@ -59,7 +58,7 @@ pub fn totals(hosts: &[HostCount]) -> HostCount
     total
 }
 
-// How many bytes came as bodies of whole responses.
+// Returns the total length of the bodies of whole responses, in bytes.
 fn body_total(results: &[Done]) -> u64
     ensures { result ≡ shown_sum (sum_by body_len results.now) }
 {
@@ -70,7 +69,7 @@ fn body_total(results: &[Done]) -> u64
     total
 }
 
-// How many bytes the body of a whole response has.
+// Returns the length of the body of a whole response, in bytes; 0 for a failed transfer.
 fn body_len(done: &Done) -> u64
     ensures { result ≡ body_len done.now }
 {
@@ -80,7 +79,7 @@ fn body_len(done: &Done) -> u64
     }
 }
 
-// How many transfers failed.
+// Returns the number of failed transfers.
 fn bad_count(results: &[Done]) -> u64
     ensures { result ≡ count_by is_bad results.now }
 {
@@ -90,7 +89,7 @@ fn bad_count(results: &[Done]) -> u64
         .count() as u64
 }
 
-// How many have a whole response over a connection that was used before.
+// Returns the number of whole responses over reused connections.
 fn reused_count(results: &[Done]) -> u64
     ensures { result ≡ count_by is_reused results.now }
 {
@@ -100,7 +99,7 @@ fn reused_count(results: &[Done]) -> u64
         .count() as u64
 }
 
-// How many have one after their request was sent again.
+// Returns the number of whole responses after a retry.
 fn retried_count(results: &[Done]) -> u64
     ensures { result ≡ count_by is_retried results.now }
 {

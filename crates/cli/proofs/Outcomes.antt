@@ -13,7 +13,7 @@ module _ {W E : Type 0} (world : World W) (options : LoadOptions) (keeps : Bool)
   of_urls plan (Ok outcome) some ended = record { used = plan; used_is = inl (some, refl); ended = ended }
   of_urls plan (Err failure) some ended = tt
 
-  -- a load of its own server
+  -- a load without URLs, which requests the server of the load
   pub of_own : (given used : MeasuredPlan) (ports : List ℕ) (r : Result LoadOutcome E) → given.urls.items ≡ [] → length ports ≡ options.sites → AddsOwn ports given used → IfOk r (λ outcome. IsUnknownHost used outcome ⊎ ReportsMany world options used keeps outcome)
       → IfOk r (HasOutcome world options given keeps)
   of_own given used ports (Ok outcome) none count adds ended = record { used = used; used_is = inr (none, ports, count, adds); ended = ended }

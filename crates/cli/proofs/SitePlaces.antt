@@ -36,7 +36,7 @@ lists_more sites place none old new below are adds =
     subst (λ (l : List LoadSite). AllZip IsListOf l new) (sym (take_more sites place none below))
     (subst (AllZip IsListOf (take place sites ++ get_or sites place none ∷ [])) (sym adds.added) (lists_push (take place sites) old (get_or sites place none) adds.next are adds.has))
 
--- the addresses that its host names are added, or those that are known
+-- adds the addresses in the host's name, or the known addresses
 pub adds_own : (old new : List (Vec SocketAddr)) (target : Target) (place : Place) → place ≡ Own → AddsHost old new (Names (string_bytes target.host) target.port) → AddsHost old new (IsListAt target place)
 adds_own old new target place is adds = record { next = adds.next; added = adds.added; has = subst (λ (p : Place). IsListAt target p adds.next.items) (sym is) adds.has }
 
@@ -45,7 +45,7 @@ pub adds_known : {A E : Type 0} (r : Result A E) (old new : List (Vec SocketAddr
 adds_known (Ok done) old new target place known copy is same adds = record { next = adds.next; added = adds.added; has = subst (λ (p : Place). IsListAt target p adds.next.items) (sym is) (adds.has ∙ same) }
 adds_known (Err error) old new target place known copy is same adds = tt
 
--- the addresses at a place are those of its target's host
+-- a place has the addresses of its target's host
 addresses_of : (resolved : List Resolved) (target : Target) (place : Place) (list : List SocketAddr) → IsPlaceOf resolved target place → IsListAt target place list → AreAddressesOf resolved target list
 addresses_of resolved target Own list is at = inr (is, inl at)
 addresses_of resolved target (Known known) list (inl given) at = inl (given.0, given.1, at ∙ given.2)

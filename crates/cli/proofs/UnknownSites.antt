@@ -15,7 +15,7 @@ if_ok_left (Err error) P Q holds = tt
 pub unknown_of : (jobs others : List Job) (resolved given : List Resolved) (fault : SiteFault) → others ≡ jobs → given ≡ resolved → IsUnknownIn others given fault → IsUnknownIn jobs resolved fault
 unknown_of jobs others resolved given fault same equal is = subst (λ (l : List Job). IsUnknownIn l resolved fault) same (subst (λ (l : List Resolved). IsUnknownIn others l fault) equal is)
 
--- the site is that of one of these jobs
+-- one of these jobs is for the site
 pub unknown_in : (jobs : List Job) (place : ℕ) (job : Job) (resolved : List Resolved) (fault : SiteFault) → place < length jobs → job ≡ get_or jobs place job → IsUnknownAt job.target resolved fault → IsUnknownIn jobs resolved fault
 unknown_in jobs place job resolved Memory below there is = tt
 unknown_in jobs place job resolved (Unknown host) below there is = (job, (place, below, sym there), is)

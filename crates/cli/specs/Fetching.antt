@@ -49,7 +49,7 @@ AreFileBytes Opens (Some name) unread bytes = AreBytesOf Opens (asked_file (Some
 abbrev pub given_by : CrawlPlan → UrlFile → Option (List ℕ) → CrawlGiven
 given_by plan kind bytes = record { options = plan.options; file = kind; words = map string_bytes plan.urls.items; bytes = bytes }
 
--- a crawl runs, and the status is that of its end
+-- runs a crawl, and returns the status for its result
 pub record RunsCrawl {K : Type 0} (crawled : K → K → List Job → List JobResult → Type 0) (finished : K → List JobResult → Type 0) (given : CrawlGiven) (old new : Stream) (status : ℕ) : Type 0 where
   pub result : Crawled
   pub crawls : Crawls crawled finished given old new result
@@ -63,7 +63,7 @@ pub record IsUnopened (Opens : Opening) (file : Option Text) (old new : Stream) 
   pub unwritten : new ≡ old
   pub ends : status ≡ 4
 
--- a plan is carried out: a crawl by its options, of its URLs and then of those of its file, unless that cannot be opened
+-- carries out a plan: crawls its URLs and then its file with its options, unless the file cannot be opened
 pub record RunsGet {K : Type 0} (crawled : K → K → List Job → List JobResult → Type 0) (finished : K → List JobResult → Type 0) (Opens : Opening) (plan : CrawlPlan) (unread left old new : Stream) (status : ℕ) : Type 0 where
   pub reads : ReadsIfAsked (option_map string_bytes plan.file) unread left
   pub runs : ((kind : UrlFile) × (bytes : Option (List ℕ)) × IsKindOf (option_map string_bytes plan.file) kind × AreFileBytes Opens (option_map string_bytes plan.file) unread bytes

@@ -50,7 +50,7 @@ abbrev pub IsGetRefused : GetSaid → GetRefusal → Type 0
 IsGetRefused said Memory = Unit {0}
 IsGetRefused said (Wrong text) = IsRefused said
 
--- the number is that of the words; without one the words are refused, or memory ran out
+-- returns the number on the command line; refuses a missing or malformed one, unless memory ran out
 abbrev pub SaysNumber : Option ℕ → Result ℕ GetRefusal → Type 0
 SaysNumber said (Ok number) = said ≡ Some number
 SaysNumber said (Err Memory) = Unit {0}

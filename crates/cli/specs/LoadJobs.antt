@@ -5,7 +5,7 @@ use Rattle.persistence.specs.declared.method.Method.TheVariants.{Get}
 use Rattle.exchange.specs.declared.job.Job.{Job}
 use Rattle.conn_log.specs.declared.entry.Want.{Want}
 
--- the transfer with that number reuses a connection that was idle for at most `max_age` seconds, whatever its age
+-- the transfer with that number reuses a connection of any age that was idle for at most `max_age` seconds
 abbrev pub want_said : ℕ → ℕ → Want
 want_said number max_age = record { transfer = number; max_age = max_age; max_life = 0; lane = 0; fresh = false; forbid_reuse = false }
 

@@ -38,7 +38,7 @@ positive None = None
 positive (Some zero) = None
 positive (Some (suc number)) = Some (suc number)
 
--- the plan of the run is that of the words: each number and each URL is in its place
+-- the run follows the plan from the command line, field by field
 pub record IsManyPlanOf (options : LoadOptions) (plan : MeasuredPlan) (keeps_logs : Bool) (many : ManyPlan) : Type 0 where
   pub limits : many.limits ≡ bounds_of options.host_limit options.total options.connects
   pub urls : many.urls.now ≡ plan.jobs.items
@@ -78,13 +78,13 @@ pub record IsResultStatus (fail_above : Option ℕ) (counts : JobCounts) (status
   pub above : IsTrue fails ↔ FailsAbove fail_above counts
   pub status_is : status ≡ load_status fails counts.good
 
--- the report and the status are those of the results
+-- the report and the status follow from the results
 pub record IsOutcomeOf (plan : MeasuredPlan) (loaded : LoadedMany) (outcome : LoadOutcome) : Type 0 where
   pub report_is : plan.flags.json ≡ false → string_bytes outcome.report ≡ load_lines loaded
   pub status_is : IsResultStatus plan.numbers.fail_above loaded.figures.all outcome.status
 
--- The same after files were written: 4 is also the status if the results are good and a file was not written. 130 is that of
--- a load that Ctrl-C ended.
+-- The same after files were written. The status is also 4 if the results are good and a file was not written, and 130
+-- if Ctrl-C ended the load.
 pub record IsLoadOutcomeOf (plan : MeasuredPlan) (loaded : LoadedMany) (outcome : LoadOutcome) : Type 0 where
   pub report_is : plan.flags.json ≡ false → string_bytes outcome.report ≡ load_lines loaded
   pub by_results : ℕ

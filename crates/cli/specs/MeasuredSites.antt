@@ -40,14 +40,14 @@ IsUnknownIn jobs resolved fault = IfUnknown fault (IsNameIn jobs resolved)
 abbrev pub GivenFor : Target → List Resolved → Option SocketAddr → Type 0
 GivenFor target resolved found = IsGivenAddress (string_bytes target.host) target.port resolved found
 
--- the addresses of a target's host: the one by `--resolve`, else those that the host names, else those that the system
--- returned for its name
+-- the addresses of a target's host: the address by `--resolve`, else the addresses in the host's name, else the results
+-- of the system's look-up
 abbrev pub AreAddressesOf : List Resolved → Target → List SocketAddr → Type 0
 AreAddressesOf resolved target addresses =
     ((given : SocketAddr) × GivenFor target resolved (Some given) × (addresses ≡ given ∷ []))
     ⊎ (GivenFor target resolved None × (Names (string_bytes target.host) target.port addresses ⊎ HasNoAddress (string_bytes target.host)))
 
--- the place of a site is that of its target's host
+-- a site has the place of its target's host
 abbrev pub IsPlaceOf : List Resolved → Target → Place → Type 0
 IsPlaceOf resolved target Own = GivenFor target resolved None
 IsPlaceOf resolved target (Known addresses) =
@@ -59,7 +59,7 @@ abbrev pub IsKnown : Place → Type 0
 IsKnown Own = ⊥
 IsKnown (Known addresses) = Unit {0}
 
--- the site with that index is that of a job
+-- the site with that index belongs to a job
 pub record IsSiteOf (jobs : List Job) (resolved : List Resolved) (index : ℕ) (site : LoadSite) : Type 0 where
   pub job : Job
   pub among : Contains jobs job
@@ -72,7 +72,7 @@ abbrev pub AreSitesOf : List Job → List Resolved → ℕ → List LoadSite →
 AreSitesOf jobs resolved index [] = Unit {0}
 AreSitesOf jobs resolved index (site ∷ sites) = IsSiteOf jobs resolved index site × AreSitesOf jobs resolved (index + 1) sites
 
--- the addresses are those of the target at this place
+-- the target has these addresses at this place
 abbrev pub IsListAt : Target → Place → List SocketAddr → Type 0
 IsListAt target Own list = Names (string_bytes target.host) target.port list
 IsListAt target (Known known) list = list ≡ known.items

@@ -31,10 +31,10 @@ const BAD_URL: u8 = 2;
 /// A URL has no good response, or no line.
 const FAILED: u8 = 4;
 
-/// Carries out a plan: fetches the URLs among the words, and then those of its file, which is one
-/// of `files`, or `input`, and writes a line on `output` as each transfer ends. Returns the status:
-/// 0 if each URL has a good response and its line, 2 if a line of the file is a bad URL, else 4.
-/// Reports faults on `errors`.
+/// Carries out a plan: fetches the URLs among the words, and then the URLs in its file, which is
+/// one of `files`, or `input`, and writes a line on `output` as each transfer ends. Returns the
+/// status: 0 if each URL has a good response and its line, 2 if a line of the file is a bad URL,
+/// else 4. Reports faults on `errors`.
 pub fn run_get<N: Network, F: ScriptFiles, R: Source, W: Sink, E: Write>(
     alloc: Global,
     plan: CrawlPlan,

@@ -1,4 +1,4 @@
--- What became of each URL, as lines are written.
+-- Each URL is accounted for as lines are written.
 use Rattle.std.proofs.Common.{◌≡◌, ◌≤◌, ◌<◌, ◌+◌, ◌-◌, ◌^◌, ℕ, zero, suc, min, cond, List, [], ◌∷◌, ◌++◌, length, get_or, refl, ap, sym, ◌∙◌, subst, arith, append_assoc, string_bytes, inl, inr}
 use Rattle.std.specs.Prelude.{flat_map, count_by, remove, Option, Some, None}
 use Rattle.std.specs.Io.KnownBytes.{Appends}
@@ -52,7 +52,7 @@ tally_more flags lines line old new is counts =
     ∙ ap (λ n. min n most) (sym (sum_by_push (λ (l : Written). cond (has_failed flags l) 1 0) lines line)) in
     ap (λ n. tally_as n new.failed) counted ∙ ap (λ n. tally_as (min (length (lines ++ line ∷ [])) most) n) failed
 
--- what holds by some jobs and results holds by more of them
+-- more jobs and results keep the end of a URL
 module _ (options : CrawlOptions) (jobs more_jobs : List Job) (results more_results : List JobResult) (in_jobs : (job : Job) → Contains jobs job → Contains more_jobs job) (in_results : (result : JobResult) → Contains results result → Contains more_results result) where
   end_more : (url : Text) (ended : Option JobResult) → IsEndOf options jobs results url ended → IsEndOf options more_jobs more_results url ended
   end_more url None is = is

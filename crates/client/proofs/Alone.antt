@@ -1,4 +1,4 @@
--- What a run does, if nothing was in flight before.
+-- Runs that begin with nothing in flight.
 use Rattle.std.proofs.Common.{◌≡◌, ◌+◌, ◌-◌, ℕ, List, [], ◌∷◌, length, refl, ap, sym, ◌∙◌, subst, arith}
 use Rattle.std.specs.Prelude.{⊤, slice_index_or, replicate, Option, None, IfSome}
 use Rattle.std.proofs.lemmas.List.Elements.{All-nil, All-replicate}
@@ -90,7 +90,7 @@ module _ {C W R : Type 0} (did : C → C → CacheCall W → Type 0) (world : Wo
       refl,
     )
 
--- what can go on at some tables can go on at the same ones
+-- transfers can continue at equal tables
 pub goes_on_at : {W : Type 0} (world : World W) (is_reading : ℕ → Type 0) (was is : List Tables) (slots : List (Option (TransferShown W))) (moments : List (Option ℕ)) → is ≡ was → CanGoOn world is_reading was slots moments → CanGoOn world is_reading is slots moments
 goes_on_at world is_reading was is slots moments same can = subst (λ (home : List Tables). CanGoOn world is_reading home slots moments) (sym same) can
 

@@ -47,7 +47,7 @@ on_utf8 line stripped url is passed utf8 few its =
 
 -- ---- the first line
 
--- the first part of a split ends in the front, whatever follows that
+-- the first part of a split ends in the front, before any further bytes
 abbrev parts_at : (ℕ → Bool) → ℕ → List ℕ → List ℕ → Bool → Type 0
 parts_at p x xs rest b = let n = cond (not b) (1 + position_or_len p xs) 0 in
     n < length (x ∷ xs) → cond b ([] ∷ slice_split p (xs ++ rest)) (onto_first x (slice_split p (xs ++ rest))) ≡ take n (x ∷ xs) ∷ slice_split p (drop 1 (drop n (x ∷ xs)) ++ rest)
@@ -248,7 +248,7 @@ gives_line urls old new (Some bytes) line ends = line.urls_are bytes ends
 pub reads_line : (urls : List Text) (old new : LinesShown) (source : Option (List ℕ)) → TakesLine urls old new → KnowsEnd old source → ReadsFile urls old new source source
 reads_line urls old new source line ends = record { unread = gives_line urls old new source line ends; ended = λ p. ends (sym line.is_at_end ∙ p) }
 
--- lines that show the same
+-- equal lines
 pub read_same : (urls : List Text) (first old new : LinesShown) (before after : Option (List ℕ)) → new ≡ old → ReadsFile urls first old before after → ReadsFile urls first new before after
 read_same urls first old new before after same read = subst (λ (lines : LinesShown). ReadsFile urls first lines before after) (sym same) read
 

@@ -62,7 +62,7 @@ fetches_on crawled crawl first before after more jobs results source queue old n
   at = at_takes crawl (more ++ jobs) results first source took.0 queue old now at took.2;
 }
 
--- up to there all was fetched
+-- all URLs were fetched
 pub fetched_here : {K : Type 0} (crawled : K → K → List Job → List JobResult → Type 0) (crawl : CrawlGiven) (first : Stream) (source : Option (List ℕ)) (queue : QueueShown) (now : OutputShown) (result : Result (Unit {0}) CrawlFault) → IsFetching crawled crawl first source queue now → (IsOk result → now.fault ≡ None → IsOver queue now.in_flight)
     → IfErr result (CanEnd crawl.options) → HasFetched crawled crawl first now result
 fetched_here crawled crawl first source queue now result f whole ended = record { jobs = f.jobs; results = f.results; ran = f.ran; source = source; queue = queue; at = f.at; whole = whole; ended = ended }
@@ -87,12 +87,12 @@ end_of_no_line options (Err (faults.Output kind)) is = absurd (search (rules, is
 end_of_no_line options (Err (faults.Network fault)) is = refl
 end_of_no_line options (Err (faults.BadUrl number)) is = refl
 
--- up to there some was fetched, as a step failed
+-- some URLs were fetched before a step failed
 pub stopped_here : {K : Type 0} (crawled : K → K → List Job → List JobResult → Type 0) (crawl : CrawlGiven) (first : Stream) (jobs : List Job) (results : List JobResult) (now : OutputShown) (fault : CrawlFault) → HasCrawled crawled jobs results → IsSomewhere crawl jobs results first now → IsStepFault fault
     → HasFetched crawled crawl first now (Err fault)
 stopped_here crawled crawl first jobs results now fault ran at is = record { jobs = jobs; results = results; ran = ran; source = at.0; queue = at.1; at = at.2; whole = λ ok none. absurd (search (rules, ok)); ended = step_can_end crawl.options fault is }
 
--- what holds of a good end
+-- a property of success holds, since the call succeeded
 pub at_ok : {A E : Type 0} (r : Result A E) (P : Type 0) → OnOk r P → IsOk r → P
 at_ok (Ok a) P holds is = holds
 at_ok (Err error) P holds is = absurd (search (rules, is))
@@ -121,7 +121,7 @@ no_jobs options (job ∷ jobs) old [] new is zip none = absurd zip
 no_jobs options (job ∷ jobs) old (one ∷ begun) new is zip none =
     absurd (omega (arith, ap (λ (l : List InFlight). length l) (sym is ∙ none), length-append old (one ∷ begun)))
 
--- a fault is no absence of one
+-- a fault is not none
 pub fault_is : (fault : Option FaultKind) (P : Type 0) → is_some fault ≡ true → fault ≡ None → P
 fault_is fault P some none = absurd (search (rules, some, none))
 
@@ -136,7 +136,7 @@ some_not_none fault is = search (rules, is)
 network_not_bad : (fault : NetworkFault) (number : ℕ) → Some (faults.Network fault) ≡ Some (faults.BadUrl number) → ⊥
 network_not_bad fault number is = search (rules, is)
 
--- what is in flight or unread at the end has no line
+-- URLs in flight or unread at the end have no line
 module _ {K : Type 0} (crawled : K → K → List Job → List JobResult → Type 0) (finished : K → List JobResult → Type 0) (crawl : CrawlGiven) (first : Stream) where
   pub ends_so : (mid now : OutputShown) (ended : Result (Unit {0}) CrawlFault) (last : K) (came : List JobResult) (result : Crawled) → HasFetched crawled crawl first mid ended → finished last came → AllTaken TakesShown mid now came
       → result.tally ≡ now.tally → line_fault result.fault ≡ now.fault → (result.fault ≡ None → IsOk ended) → ((number : ℕ) → result.fault ≡ Some (faults.BadUrl number) → ended ≡ Err (faults.BadUrl number)) → Crawls crawled finished crawl first now.stream result

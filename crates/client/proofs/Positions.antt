@@ -1,4 +1,4 @@
--- How far a crawl is, step by step.
+-- The position of a crawl after each step.
 use Rattle.std.proofs.Common.{◌≡◌, ◌≤◌, ℕ, ◌-◌, List, [], ◌∷◌, ◌++◌, length, refl, ap, sym, ◌∙◌, subst, arith, append_assoc, append-nil}
 use Rattle.std.specs.Prelude.{true, Option, None}
 use Rattle.std.specs.List.{All, AllZip}
@@ -62,11 +62,11 @@ module _ (crawl : CrawlGiven) (jobs : List Job) (results : List JobResult) (firs
   }
 
 module _ (crawl : CrawlGiven) (jobs : List Job) (results : List JobResult) (first : Stream) (source : Option (List ℕ)) where
-  -- the same, at a queue that shows the same
+  -- the same at an equal queue
   pub at_same : (old new : QueueShown) (now : OutputShown) → new ≡ old → IsAt crawl jobs results first source old now → IsAt crawl jobs results first source new now
   at_same old new now same at = subst (λ (queue : QueueShown). IsAt crawl jobs results first source queue now) (sym same) at
 
-  -- at an output that shows the same
+  -- at an equal output
   pub shown_same : (queue : QueueShown) (old new : OutputShown) → new ≡ old → IsAt crawl jobs results first source queue old → IsAt crawl jobs results first source queue new
   shown_same queue old new same at = subst (λ (now : OutputShown). IsAt crawl jobs results first source queue now) (sym same) at
 

@@ -1,4 +1,4 @@
--- What is read into a queue, and taken out of it.
+-- URLs that enter and leave a queue.
 use Rattle.std.proofs.Common.{◌≡◌, ◌≤◌, ◌<◌, ℕ, List, [], ◌∷◌, ◌++◌, length, get_or, map, refl, ap, sym, ◌∙◌, subst, arith, append_assoc, append-nil, string_bytes, inl, inr}
 use Rattle.std.specs.Prelude.{◌≢◌, Bool, true, Option, String, reverse, remove, Result, Ok, Err, OnOk}
 use Rattle.std.specs.Global.{Global}
@@ -54,12 +54,12 @@ reads_then first mid last before between after one other = record {
   file = other.file ∙ one.file;
 }
 
--- what follows if a call succeeds
+-- a consequence of success
 pub on_ok : {A E : Type 0} (r : Result A E) (P Q : Type 0) → (P → Q) → OnOk r P → OnOk r Q
 on_ok (Ok done) P Q leads holds = leads holds
 on_ok (Err error) P Q leads holds = tt
 
--- the last URL of the words, turned round, is the first
+-- the first URL is the last of the reversed list
 pub first_left : (old new : List (String Global)) (url : String Global) → old ≡ new ++ url ∷ [] → map string_bytes (reverse old) ≡ string_bytes url ∷ map string_bytes (reverse new)
 first_left old new url is = ap (λ (l : List (String Global)). map string_bytes (reverse l)) is ∙ ap (λ (l : List (String Global)). map string_bytes l) (reverse-append new (url ∷ []))
 
@@ -131,7 +131,7 @@ zip_push R [] (b ∷ ys) x y are is = absurd are
 zip_push R (a ∷ xs) [] x y are is = absurd are
 zip_push R (a ∷ xs) (b ∷ ys) x y are is = (are.0, zip_push R xs ys x y are.1 is)
 
--- how far a window is: the URLs that were queued begin, wait or are queued, and those that begin have their jobs
+-- a window in the making: each URL of the queue has begun with its job, waits, or is still queued
 pub record IsWindow (options : CrawlOptions) (was : List Queued) (window : Window) (queued : List Queued) (free : ℕ) : Type 0 where
   pub each : IsPermutation (urls_queued was) (urls_in_flight window.transfers.items ++ (urls_queued window.waiting.items ++ urls_queued queued))
   pub order : options.parallel ≡ 1 → urls_queued was ≡ urls_in_flight window.transfers.items ++ (urls_queued window.waiting.items ++ urls_queued queued)
@@ -198,7 +198,7 @@ module _ (options : CrawlOptions) (was : List Queued) (free : ℕ) where
   window_on old new one queued rest is w first room (inl b) = window_begins old new one rest (subst (λ (qs : List Queued). IsWindow options was old qs free) is w) first room b
   window_on old new one queued rest is w first room (inr b) = window_waits old new one rest (subst (λ (qs : List Queued). IsWindow options was old qs free) is w) b
 
--- what begins is taken out of the queue
+-- the URLs of the window leave the queue
 pub window_takes : (options : CrawlOptions) (was queued : List Queued) (window : Window) (free : ℕ) (old new : QueueShown) → IsWindow options was window queued free
     → old.queued ≡ urls_queued was → new.queued ≡ urls_queued (window.waiting.items ++ queued) → old.options ≡ options → new.left ≡ old.left → new.lines ≡ old.lines → new.options ≡ old.options → new.file ≡ old.file
     → TakesOut (urls_in_flight window.transfers.items) old new
@@ -221,7 +221,7 @@ module _ {A E : Type 0} where
   waiting_on (Ok done) options url one old new its waiting jobs transfers = inr (record { one = one; its_url = its; jobs = jobs; transfers = transfers; waiting = waiting })
   waiting_on (Err error) options url one old new its waiting jobs transfers = tt
 
-  -- a transfer that is added begins
+  -- an added transfer begins
   pub begun_on : (r : Result A E) (options : CrawlOptions) (url : Text) (job : Job) (one : InFlight) (old new : Window) → string_bytes one.url ≡ url → IsJobOf options job one → OnOk r (new.jobs.items ≡ old.jobs.items ++ job ∷ [])
       → OnOk r (new.transfers.items ≡ old.transfers.items ++ one ∷ []) → new.waiting.items ≡ old.waiting.items → OnOk r (Begins options url old new)
   begun_on (Ok done) options url job one old new its is jobs transfers waiting = record { job = job; one = one; its_url = its; its = is; jobs = jobs; transfers = transfers; waiting = waiting }

@@ -1,11 +1,11 @@
--- What stays the same as results are taken.
+-- Parts of the state that no result changes.
 use Rattle.std.proofs.Common.{◌≡◌, List, [], ◌∷◌, length, ap, sym, ◌∙◌, arith, inl, inr}
 use Rattle.std.specs.Prelude.{None}
 use Rattle.run_loop.specs.Taking.{AllTaken, JobResult}
 use Rattle.client.specs.Written.{OutputShown, TakesResult, TakesShown}
 use Rattle.client.specs.declared.crawl.in_flight.InFlight.{InFlight}
 
--- what each taken result leaves, all of them leave
+-- no result changes the part, so all together leave it
 module _ {X : Type 0} (of : OutputShown → X) (keeps : (result : JobResult) (old new : OutputShown) → TakesResult result old new → of new ≡ of old) where
   kept_all : (came : List JobResult) (old new : OutputShown) → AllTaken TakesShown old new came → of new ≡ of old
   kept_all [] old new same = ap of same
@@ -43,7 +43,7 @@ pub none_all : (came : List JobResult) (old new : OutputShown) → AllTaken Take
 none_all [] old new same none = ap (λ (o : OutputShown). o.in_flight) same ∙ none
 none_all (result ∷ earlier) old new taken none = none_one result taken.0 new taken.2 (none_all earlier old taken.0 taken.1 none)
 
--- what is taken, as it is shown
+-- the same of the states that are shown
 module _ {R : Type 0} (shown : R → OutputShown) where
   pub shown_all : (came : List JobResult) (old new : R) → AllTaken (λ (before after : R) number done span. TakesShown (shown before) (shown after) number done span) old new came
       → AllTaken TakesShown (shown old) (shown new) came

@@ -62,7 +62,7 @@ pub record IsAt (crawl : CrawlGiven) (jobs : List Job) (results : List JobResult
   pub are : given ++ queue.left ≡ crawl.words ++ from_file
   pub accounted : AreAccounted crawl.options jobs results given queue.queued first now
 
--- the same for some rest of the file and some queue
+-- the same, with any queue and unread bytes
 abbrev pub IsSomewhere : CrawlGiven → List Job → List JobResult → Stream → OutputShown → Type 0
 IsSomewhere crawl jobs results first now = (source : Option (List ℕ)) × (queue : QueueShown) × IsAt crawl jobs results first source queue now
 

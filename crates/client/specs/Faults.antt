@@ -23,6 +23,6 @@ can_end options (Some (faults.Output kind)) = false
 can_end options (Some (faults.BadUrl line)) = not options.flags.skip_bad
 can_end options (Some fault) = true
 
--- a fault that may end a crawl, apart from those of lines: a bad URL only if bad URLs are not skipped
+-- a fault that may end a crawl, other than of a line: a bad URL only if bad URLs are not skipped
 abbrev pub CanEnd : CrawlOptions → CrawlFault → Type 0
 CanEnd options fault = can_end options (Some fault) ≡ true

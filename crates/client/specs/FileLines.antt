@@ -49,7 +49,7 @@ nothing_read = record { pending = []; is_at_end = false }
 abbrev pub HasNoEnd : List ℕ → Type 0
 HasNoEnd bytes = All (λ byte. ends_line byte ≡ false) bytes
 
--- a line with these URLs is taken, whatever bytes follow those that were read
+-- a line with these URLs is taken, for any bytes that are read later
 pub record TakesLine (urls : List Text) (old new : LinesShown) : Type 0 where
   pub is_at_end : new.is_at_end ≡ old.is_at_end
   pub urls_are : (rest : List ℕ) → (old.is_at_end ≡ true → rest ≡ []) → urls_in (old.pending ++ rest) ≡ urls ++ urls_in (new.pending ++ rest)

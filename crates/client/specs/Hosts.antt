@@ -8,7 +8,7 @@ use Rattle.site_table.specs.Hosts.{Hosts}
 use Rattle.client.specs.declared.crawl.in_flight.InFlight.{InFlight}
 use Rattle.client.specs.declared.resolved.Resolved.{Resolved}
 
--- an address is given for that host, in whatever case, and port
+-- an address is given for that port and host, which are compared without regard to case
 abbrev pub IsGivenFor : List ℕ → ℕ → Resolved → Type 0
 IsGivenFor host port given =
     (socket_port given.address ≡ port) × (map to_ascii_lowercase (string_bytes given.host) ≡ map to_ascii_lowercase host)

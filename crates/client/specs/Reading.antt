@@ -50,7 +50,7 @@ pub record ReadsOn (old new : QueueShown) (before after : Option (List ℕ)) : T
   pub options : new.options ≡ old.options
   pub file : new.file ≡ old.file
 
--- more URLs are read: first those among the words, then those of the file
+-- more URLs are read: first from the command line, then from the file
 pub record Reads (old new : QueueShown) (before after : Option (List ℕ)) : Type 0 where
   pub more : List Text
   pub from_file : List Text

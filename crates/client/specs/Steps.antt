@@ -22,7 +22,7 @@ pub record IsJobOf (options : CrawlOptions) (job : Job) (one : InFlight) : Type 
   pub site : job.site ≡ one.place
   pub target : ∥ GivesTarget (string_bytes one.url) job.target ∥₁
 
--- one of these jobs is that of the transfer
+-- one of these jobs belongs to the transfer
 pub record HasJob (options : CrawlOptions) (jobs : List Job) (one : InFlight) : Type 0 where
   pub job : Job
   pub among : Contains jobs job

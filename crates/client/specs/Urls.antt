@@ -18,8 +18,8 @@ IsPrintable text = list_any is_unprintable (chars text) ≡ false
 abbrev pub IsBadUrl : List ℕ → Type 0
 IsBadUrl url = ((error : KeyError) × Refuses url error × (error ≢ Memory)) ⊎ (list_any is_unprintable (chars url) ≡ true)
 
--- a line of a file that is no URL: it has more than 2,048 bytes, or is not UTF-8. Its text is that of its first 2,048
--- bytes, with U+FFFD for each byte that is not UTF-8
+-- the text of a line that is longer than 2,048 bytes, or not UTF-8: its first 2,048 bytes, with U+FFFD for each byte
+-- that is not UTF-8
 pub record IsBadLine (text : List ℕ) : Type 0 where
   pub line : List ℕ
   pub text_is : text ≡ utf8_lossy (take 2048 line)

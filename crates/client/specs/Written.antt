@@ -35,7 +35,7 @@ ended_badly flags (Some result) = done_failed flags result.done
 abbrev pub has_failed : CrawlFlags → Written → Bool
 has_failed flags line = ended_badly flags line.ended
 
--- numbers of lines, and of those of failed URLs, each at most the greatest of 64 bits
+-- the number of lines and the number of failed URLs, each at most 2^64 - 1
 abbrev pub tally_of : CrawlFlags → List Written → Tally
 tally_of flags lines = record { lines = min (length lines) (2 ^ 64 - 1); failed = min (count_by (has_failed flags) lines) (2 ^ 64 - 1) }
 

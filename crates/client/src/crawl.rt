@@ -82,7 +82,7 @@ pub struct Crawled {
 /// The next step of a crawl.
 #[derive(Drop)]
 pub(crate) enum Step {
-    /// Begins these jobs, and carries out what is in flight.
+    /// Begins these jobs, and runs all transfers in flight.
     Fetch(Vec<Job>),
     /// Reads more: nothing is in flight.
     Read,
@@ -101,7 +101,7 @@ impl Crawl {
         }
     }
 
-    /// Fetches the URLs, and then those of `input`, if there is a file, and writes a line on
+    /// Fetches the URLs, and then the URLs in `input`, if there is a file, and writes a line on
     /// `output` as each transfer ends: its result, and its URL. With `parallel` 1, lines are in the
     /// order of the URLs. After a failed read of `input` it fetches the URLs that were read before.
     pub fn run<N: Network, R: Source, W: Sink>(
@@ -166,7 +166,7 @@ fn unopened(fault: NetworkFault) -> Crawled
     }
 }
 
-// Returns the fault of a crawl, if it has one: that of a line comes before the others.
+// Returns the fault of a crawl, if it has one. The fault of a line comes before others.
 fn fault_of(
     line: Option<FaultKind>,
     ended: Result<(), CrawlFault>,
@@ -228,8 +228,7 @@ fn fetch_urls<N: Names, C: Crawler, R: Source, W: Sink>(
     Err(OUT_OF_MEMORY)
 }
 
-// Begins jobs, and carries out what is in flight, until a transfer has ended, or there is other
-// work to do.
+// Begins jobs, and runs all transfers in flight until one ends or there is other work to do.
 fn fetch<N: Names, C: Crawler, R: Source, W: Sink>(
     queue: &Queue,
     jobs: &[Job],

@@ -14,7 +14,7 @@ pub struct Resolved {
 }
 
 impl Resolved {
-    /// True if it is the address of that host, in whatever case, and port.
+    /// True if it is the address for that host, compared without regard to case, and that port.
     pub fn is_of(&self, host: &str, port: u16) -> bool
         ensures { IsTrue result ↔ IsGivenFor host.now port self.now }
     {

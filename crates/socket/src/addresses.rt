@@ -84,8 +84,7 @@ impl Addresses {
         Ok(())
     }
 
-    /// Gives the host at `place` these addresses in place of those that it had. Hosts in between
-    /// that did not exist yet have no addresses.
+    /// Sets the addresses of the host at `place`. New hosts before it have none.
     ///
     /// # Errors
     ///

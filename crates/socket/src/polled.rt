@@ -201,8 +201,8 @@ impl<'n, N: Net> PolledDial<'n, N> {
         PolledAlarm::new(&self.registry)
     }
 
-    /// Gives the host at `place` these addresses in place of those that it had. A connection that
-    /// was begun there goes on with the next of them if its address fails.
+    /// Sets the addresses of the host at `place`. A dial in progress there tries the next of them
+    /// if its address fails.
     ///
     /// # Errors
     ///

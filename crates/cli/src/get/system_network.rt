@@ -12,7 +12,7 @@ use std::io::ErrorKind;
 use std::random::RandomSource;
 use std::sync::Wait;
 
-/// Maximum number of idle connections that are kept: well below what a process may have open.
+/// Maximum number of idle connections, well below the usual limit of open files.
 const MOST_IDLE: u32 = 256;
 
 /// The system's error if too many files are open in the system (ENFILE of open(2)).

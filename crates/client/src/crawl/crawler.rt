@@ -17,7 +17,7 @@ pub trait Signals {
     fn has_news(&self) -> bool;
 }
 
-/// Runs the jobs of a crawl over kept connections. Its places are those of its hosts. It must be
+/// Runs the jobs of a crawl over kept connections. It has a place for each host, and must be
 /// finished.
 pub trait Crawler: Places {
     ghost use Rattle.std.specs.Prelude.{ℕ, List, [], OnOk};

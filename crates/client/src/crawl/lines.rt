@@ -111,7 +111,7 @@ impl UrlLines {
     ///
     /// # Errors
     ///
-    /// There is no memory for what was read.
+    /// There is no memory for the bytes of the read.
     pub(crate) fn read_on<R: Source>(
         &mut self,
         alloc: Global,
@@ -190,8 +190,8 @@ fn line_of(alloc: Global, line: &[u8], number: u64) -> Result<Line, AllocError>
     }
 }
 
-// Returns the text of the first bytes of a line, as many as a URL may have. Bytes that are not
-// UTF-8 become U+FFFD.
+// Returns the text of a line, cut at the maximum length of a URL. Bytes that are not UTF-8 become
+// U+FFFD.
 fn lossy_front(alloc: Global, line: &[u8]) -> Result<String, AllocError>
     ensures { IfOk result (λ text. string_bytes text ≡ utf8_lossy (take 2048 line.now)) }
 {
@@ -218,7 +218,7 @@ fn is_skipped(line: &[u8]) -> bool
     }
 }
 
-// The first bytes of a line, as many as a URL may have.
+// Returns a line, cut at the maximum length of a URL.
 fn front(line: &[u8]) -> &[u8]
     ensures { result.now ≡ take 2048 line.now }
 {

@@ -124,7 +124,7 @@ impl KnownNames {
         self.set(name.as_str(), Some(found))
     }
 
-    // Records what is known of a name.
+    // Records the addresses of a name.
     fn set(&mut self, name: &str, found: Option<Vec<SocketAddr>>) -> Result<(), AllocError> {
         let Ok(place) = self.names.place(name, &AnyPlace) else {
             return Err(AllocError);

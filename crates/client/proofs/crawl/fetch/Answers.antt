@@ -1,4 +1,4 @@
--- The results that came are taken, as the output shows.
+-- The output takes the results that arrived.
 use Rattle.client.specs.Written.{output_shown}
 use Rattle.client.specs.declared.crawl.output.Output.{Output}
 use Rattle.client.proofs.Taken.{shown_all}

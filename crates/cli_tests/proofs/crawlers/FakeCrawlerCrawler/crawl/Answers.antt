@@ -1,4 +1,4 @@
--- Results are taken in their turn, and then those that are late.
+-- Takes the results of the jobs in order, and then the late results.
 use Rattle.cli_tests.proofs.Takes.{takes_more, takes_none}
 use Rattle.cli_tests.proofs.crawlers.FakeCrawlerCrawler.crawl.Goals as goal
 

@@ -1,4 +1,4 @@
--- A crawl ends, with what its steps have led to.
+-- A crawl ends with the result of its steps.
 use Rattle.std.proofs.Common.{◌∙◌, refl, subst, sym, [], None}
 use Rattle.client.specs.Crawling.{Crawls, crawl_given, queue_given}
 use Rattle.client.specs.Reading.{queue_shown}

@@ -1,4 +1,4 @@
--- The addresses of a site are those that its host names, or that are known.
+-- A site gets the addresses in its host's name, or its known addresses.
 use Rattle.std.proofs.Common.{◌∙◌, ◌++◌, List, ap}
 use Rattle.std.specs.declared.net.socket_addr.SocketAddr.{SocketAddr}
 use Rattle.cli.proofs.SitePlaces.{adds_known, adds_own}

@@ -1,4 +1,4 @@
--- A load of the plan's URLs, or of its own server.
+-- A load requests the plan's URLs, or a server that it starts.
 use Rattle.std.proofs.Common.{◌∙◌, ap, length, rules, List, ℕ}
 use Rattle.std.specs.Option.{is_some}
 use Rattle.std.proofs.lemmas.List.{nil_from_length}

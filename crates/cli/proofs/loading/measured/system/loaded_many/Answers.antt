@@ -1,4 +1,4 @@
--- The plan of the run is that of the words.
+-- The run follows the plan from the command line.
 use Rattle.std.proofs.Common.{refl}
 use Rattle.std.specs.List.{AllZip}
 use Rattle.std.proofs.lemmas.List.Elements.{All-weaker}

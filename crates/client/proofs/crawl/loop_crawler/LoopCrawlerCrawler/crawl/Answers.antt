@@ -1,4 +1,4 @@
--- A part of a run takes results, and leaves what is in flight as it should be.
+-- Part of a run takes results and keeps the invariant of the transfers in flight.
 use Rattle.std.proofs.Common.{refl, ap}
 use Rattle.exchange.specs.Worlds.{world_of}
 use Rattle.client.specs.Results.{first_number, job_of, numbers_from}

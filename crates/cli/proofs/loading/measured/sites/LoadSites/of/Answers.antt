@@ -1,4 +1,4 @@
--- Each site is that of a job; or the host of a job is unknown.
+-- Each site belongs to a job, or the host of a job is unknown.
 use Rattle.std.proofs.Common.{◌∙◌, arith, refl, sym}
 use Rattle.cli.proofs.SitePlaces.{sites_more}
 use Rattle.cli.proofs.UnknownSites.{unknown_in}
