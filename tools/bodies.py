@@ -395,8 +395,8 @@ def try_round(checker, together, kept, has_control):
 
 
 def try_together(checker, together, kept, has_control):
-    """Tries edits at once: the result of each. What calls a function that another of them has refused is not proved
-    itself, so those that show too little are tried again without the others, or, if no other was shown, each alone."""
+    """Tries edits at once, and returns the result of each. A caller of a refused function is not proved either, so an
+    edit of it shows nothing: such edits are tried again without the others, or each alone if all are left."""
     found = try_round(checker, together, kept, has_control)
     left = [edit for edit, one in zip(together, found, strict=True) if one.wrong]
     if not left or len(together) == 1:
@@ -404,8 +404,8 @@ def try_together(checker, together, kept, has_control):
     parts = [left] if len(left) < len(together) else [[edit] for edit in left]
     again = [one for part in parts for one in try_together(checker, part, kept, has_control)]
     spent = {one.edit: one.seconds for one in found}
-    shown = [one for one in found if not one.wrong]
-    return shown + [one._replace(seconds=one.seconds + spent[one.edit]) for one in again]
+    refused = [one for one in found if not one.wrong]
+    return refused + [one._replace(seconds=one.seconds + spent[one.edit]) for one in again]
 
 
 def try_edits(checker, crate, kind, has_control=False):

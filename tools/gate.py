@@ -25,7 +25,7 @@ from unproved import Run, Unproved, copy_sources
 LEAST_PRIORITY, PRIORITY_OF_TESTS = 19, 5
 # of a test, beside proofs
 TEST_SECONDS = 600
-# what a check of some functions and a crate of tests, as it is compiled, take at most
+# maximum memory of a check of some functions, and of the compiler for a crate of tests
 BYTES_OF_BODIES, BYTES_OF_TESTS = 2_500_000_000, 4_200_000_000
 # one `rt lib` at a time: it uses all processors
 IN_PLACE = threading.Lock()

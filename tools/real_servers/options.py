@@ -57,13 +57,13 @@ def get_all(options, urls):
 
 
 def load_all(options, urls):
-    """A load with as many requests as there are URLs, each of its own."""
+    """Runs a load with one request to each URL."""
     return programs.load([*(word for url in urls for word in ("--url", url)), "--jobs", str(len(urls)), "--quiet", *options])
 
 
 def limited(run_all, options, together, each):
-    """Returns what is wrong with eight requests of two hosts, of which `together` are in flight at once, or nothing; no
-    host has more than `each` connections."""
+    """Makes eight requests to two hosts. Returns an error unless `together` are in flight at once, and no host has more
+    than `each` connections."""
     behaviour = Recording(group=together)
     with Server(behaviour) as one, Server(behaviour) as other:
         run = run_all(options, [url_of(server, number) for number in range(1, 5) for server in (one, other)])
@@ -76,7 +76,7 @@ def limited(run_all, options, together, each):
 
 
 def accepted(run_all, options, count, behaviour=servers.lasts, urls=3):
-    """Returns what is wrong unless the requests open `count` connections."""
+    """Returns an error unless the requests open `count` connections."""
     with Server(behaviour) as server:
         run = run_all(options, [url_of(server, number) for number in range(1, urls + 1)])
         if run.status != 0 or server.accepted != count:
@@ -85,8 +85,7 @@ def accepted(run_all, options, count, behaviour=servers.lasts, urls=3):
 
 
 def idle_for_long(max_age, count):
-    """Returns what is wrong unless two URLs, the second of which is given 2.5 seconds after the first, open `count`
-    connections."""
+    """Gives a second URL 2.5 seconds after the first. Returns an error unless they open `count` connections."""
     with Server(servers.lasts) as server:
         words = [programs.curlpool(), "get", "--file", "-", "--max-age", max_age]
         with subprocess.Popen(words, stdin=subprocess.PIPE, stdout=subprocess.PIPE, stderr=subprocess.PIPE, encoding="utf8",
@@ -184,7 +183,7 @@ def many_hosts():
 
 
 def in_a_file():
-    """URLs of a file come after those of the command line, each once."""
+    """The URLs of a file come after the URLs of the command line, each once."""
     behaviour = Recording()
     with Server(behaviour) as server, tempfile.TemporaryDirectory() as folder:
         name = os.path.join(folder, "urls")
