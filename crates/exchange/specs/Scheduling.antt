@@ -20,13 +20,6 @@ IsDueList list = (list ≡ 2) ⊎ (list ≡ 3)
 abbrev pub site_list_of : ℕ → ℕ
 site_list_of site = 4 + site
 
-abbrev pub most_lists : ℕ
-most_lists = 1028
-
--- no host has a site past this one
-abbrev pub last_site : ℕ
-last_site = 1023
-
 -- it waits for a connection
 abbrev pub is_waiting : {W : Type 0} → State W → Bool
 is_waiting (Waiting ticket) = true

@@ -1,18 +1,16 @@
 //! Which places of a slab are polled next.
 
 ghost use Rattle.std.specs.Prelude.{◌≡◌, ℕ, ◌<◌, ◌≤◌, Some, None, IfSome, IfNone, IfOk, OnOk};
-ghost use Rattle.std.specs.Prelude.{false};
+ghost use Rattle.std.specs.Prelude.{◌+◌, false};
 ghost use Rattle.futures.specs.LinkedLists.{list_of, list_count, key_limit, IsEmpty, SameLists};
 ghost use Rattle.futures.specs.LinkedLists.{Moves};
-ghost use Rattle.exchange.specs.Scheduling.{free_list, most_lists, last_site, IsDueList};
-ghost use Rattle.exchange.specs.Scheduling.{site_list_of, IsListFor, Becomes, Wakes};
-ghost use Rattle.exchange.specs.Scheduling.{HasNoneDue};
+ghost use Rattle.exchange.specs.Scheduling.{free_list, site_list_of, IsDueList, IsListFor};
+ghost use Rattle.exchange.specs.Scheduling.{Becomes, HasNoneDue, Wakes};
 ghost use Rattle.std.specs.Bool.{OnFalse};
 
 use crate::ready::Place;
 use crate::transfer::Transfer;
 use crate::wire::Wire;
-use bundle::MOST_HOSTS;
 use futures::util::linked_list::LinkedLists;
 use std::alloc::{AllocError, Global};
 
@@ -30,9 +28,6 @@ const DUE_ODD: usize = 3;
 /// The list of places that wait for a connection to the first site; the other sites' are behind it.
 const FIRST_SITE: usize = 4;
 
-/// How many lists of places there are.
-const LISTS: usize = FIRST_SITE + MOST_HOSTS as usize;
-
 /// The list of sites whose first waiter is not asked.
 const QUIET: usize = 0;
 
@@ -41,16 +36,13 @@ const ASKED_EVEN: usize = 1;
 
 const ASKED_ODD: usize = 2;
 
-/// The last site that a host may have.
-const LAST_SITE: usize = MOST_HOSTS as usize - 1;
-
 /// How many lists of sites there are.
 const SITE_LISTS: usize = 3;
 
 // The list of places that are due in rounds of that parity.
 fn due_list(is_odd: bool) -> usize
     ensures due { IsDueList result }
-    ensures in_range { result < most_lists }
+    ensures in_range { result < 4 }
 {
     if is_odd { DUE_ODD } else { DUE_EVEN }
 }
@@ -60,18 +52,6 @@ fn asked_list(is_odd: bool) -> usize
     ensures { result < 3 }
 {
     if is_odd { ASKED_ODD } else { ASKED_EVEN }
-}
-
-// The list of places that wait at a site: no host has a site past the most.
-fn site_list(site: usize) -> Option<usize>
-    ensures list { IfSome result (λ list. list ≡ site_list_of site) }
-    ensures in_range { IfSome result (λ list. list < most_lists) }
-{
-    if site < MOST_HOSTS as usize {
-        Some(FIRST_SITE + site)
-    } else {
-        None
-    }
 }
 
 // So many lists without keys, with room for so many keys.
@@ -138,33 +118,51 @@ pub(crate) struct Schedule {
     seats: Vec<Seat>,
     // The sites where places wait, in lists; a site where none waits any more may be left there.
     sites: LinkedLists,
-    // The parity of this round.
+    // The parity of this round, or of the next one between rounds.
     is_odd: bool,
+    // A round has begun, and not ended.
+    is_in_round: bool,
     // A lease or a ticket was spent since the sites were asked.
     is_to_ask: bool,
     // One was since the slab's owner asked.
     has_spent: bool,
     // How many transfers had their connection after a wait since the slab's owner asked.
     granted: u64,
-    ghost count: { list_count lists ≡ most_lists },
+    // Number of sites that have a list of places.
+    site_count: usize,
+    ghost count: { list_count lists ≡ 4 + site_count },
     ghost sites_count: { list_count sites ≡ 3 },
-    ghost sites_room: { last_site < key_limit sites },
+    ghost sites_room: { site_count ≤ key_limit sites },
 }
 
 impl Schedule {
-    /// No transfers, and memory for so many places.
-    pub(crate) fn with_room(alloc: Global, room: usize) -> Result<Schedule, AllocError>
+    /// Returns a schedule without transfers, with memory for `room` places, and for the waiters of
+    /// `site_count` sites. A transfer that waits at another site is polled in each round.
+    ///
+    /// # Errors
+    ///
+    /// There is no memory for them.
+    pub(crate) fn with_room(
+        alloc: Global,
+        room: usize,
+        site_count: usize,
+    ) -> Result<Schedule, AllocError>
         ensures unlisted { IfOk result (λ made. (place : ℕ) → list_of made.lists place ≡ None) }
         ensures reserved { IfOk result (λ made. room ≤ key_limit made.lists) }
     {
+        let Some(all_lists) = site_count.checked_add(FIRST_SITE) else {
+            return Err(AllocError);
+        };
         Ok(Schedule {
-            lists: lists_of(alloc, LISTS, room)?,
+            lists: lists_of(alloc, all_lists, room)?,
             seats: seats_of(alloc, room)?,
-            sites: lists_of(alloc, SITE_LISTS, LAST_SITE + 1)?,
+            sites: lists_of(alloc, SITE_LISTS, site_count)?,
             is_odd: false,
+            is_in_round: false,
             is_to_ask: false,
             has_spent: false,
             granted: 0,
+            site_count,
         })
     }
 
@@ -214,10 +212,10 @@ impl Schedule {
 
     /// No round takes more polls.
     pub(crate) fn most_polls(&self) -> usize {
-        self.seats.len().saturating_add(MOST_HOSTS as usize)
+        self.seats.len().saturating_add(self.site_count)
     }
 
-    /// A new transfer stands at the place, which is polled in the next round.
+    /// A new transfer stands at the place, which is polled in the next round to begin.
     pub(crate) fn joins(&mut self, place: usize)
         requires { place < key_limit self.old.lists }
         ensures { Becomes self.old.lists self.new.lists place IsDueList }
@@ -228,18 +226,19 @@ impl Schedule {
         self.becomes_due(place);
     }
 
-    // The place is polled in the next round.
+    // The place is polled in the next round to begin.
     fn becomes_due(&mut self, place: usize)
         requires { place < key_limit self.old.lists }
         ensures { Becomes self.old.lists self.new.lists place IsDueList }
     {
-        self.moves(place, due_list(!self.is_odd));
+        self.moves(place, due_list(self.is_odd != self.is_in_round));
     }
 
-    /// The next place to be polled in this round.
+    /// The next place to be polled in this round, which begins with the first call.
     pub(crate) fn next_due(&mut self) -> Option<usize>
         ensures { self.new.lists ≡ self.old.lists }
     {
+        self.is_in_round = true;
         match self.lists.front(due_list(self.is_odd)) {
             Some(place) => Some(place),
             None => self.next_asked(),
@@ -250,7 +249,7 @@ impl Schedule {
     fn next_asked(&mut self) -> Option<usize>
         ensures { self.new.lists ≡ self.old.lists }
     {
-        for _ in 0..MOST_HOSTS {
+        for _ in 0..self.site_count {
             let site = self.sites.front(asked_list(self.is_odd))?;
             if let Some(place) = self.first_at(site) {
                 return Some(place);
@@ -262,7 +261,19 @@ impl Schedule {
 
     // The first place that waits at the site.
     fn first_at(&self, site: usize) -> Option<usize> {
-        self.lists.front(site_list(site)?)
+        self.lists.front(self.site_list(site)?)
+    }
+
+    // Returns the list of places that wait at a site, if the site has one.
+    fn site_list(&self, site: usize) -> Option<usize>
+        ensures list { IfSome result (λ list. list ≡ site_list_of site) }
+        ensures in_range { IfSome result (λ list. list < list_count self.now.lists) }
+    {
+        if site < self.site_count {
+            FIRST_SITE.checked_add(site)
+        } else {
+            None
+        }
     }
 
     /// The transfer there was polled and goes on; it waited for a connection before, or not.
@@ -318,7 +329,7 @@ impl Schedule {
     // Puts the place behind all others of that list.
     fn moves(&mut self, place: usize, list: usize)
         requires place_in { place < key_limit self.old.lists }
-        requires list_in { list < most_lists }
+        requires list_in { list < list_count self.old.lists }
         ensures { Moves self.old.lists self.new.lists place (Some list) }
     {
         if let Some(seat) = self.seats.get_mut(place) {
@@ -331,10 +342,10 @@ impl Schedule {
     // once more: the first read after a write asks nobody.
     fn list_for<W: Wire>(&self, place: usize, transfer: &Transfer<W>) -> usize
         ensures list { IsListFor transfer.now result }
-        ensures in_range { result < most_lists }
+        ensures in_range { result < list_count self.now.lists }
     {
         if transfer.has_ticket() {
-            if let Some(list) = site_list(transfer.site() as usize) {
+            if let Some(list) = self.site_list(transfer.site() as usize) {
                 return list;
             }
         }
@@ -368,13 +379,13 @@ impl Schedule {
         requires { list < 3 }
         ensures { self.new.lists ≡ self.old.lists }
     {
-        if site <= LAST_SITE {
+        if site < self.site_count {
             move_to(&mut self.sites, list, site);
         }
     }
 
-    /// The dial tells of the transfer at that place. One that is parked is polled in the next
-    /// round. What is told of a transfer that stood there before, or of one that waits for a
+    /// The dial tells of the transfer at that place. One that is parked is polled in the next round
+    /// to begin. What is told of a transfer that stood there before, or of one that waits for a
     /// connection, says nothing.
     pub(crate) fn note_ready(&mut self, told: Place)
         ensures wakes { Wakes self.old.lists self.new.lists }
@@ -390,7 +401,7 @@ impl Schedule {
         }
     }
 
-    /// The dial can't tell: each place that is parked is polled in the next round.
+    /// The dial can't tell: each place that is parked is polled in the next round to begin.
     pub(crate) fn note_all_ready(&mut self)
         ensures wakes { Wakes self.old.lists self.new.lists }
         ensures limit { key_limit self.new.lists ≡ key_limit self.old.lists }
@@ -440,13 +451,14 @@ impl Schedule {
             self.ask_all();
         }
         self.is_odd = !self.is_odd;
+        self.is_in_round = false;
     }
 
     // Each site where a place waits is asked in the next round.
     fn ask_all(&mut self)
         ensures { self.new.lists ≡ self.old.lists }
     {
-        for _ in 0..MOST_HOSTS {
+        for _ in 0..self.site_count {
             let Some(site) = self.sites.front(QUIET) else {
                 return;
             };

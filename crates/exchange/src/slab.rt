@@ -25,6 +25,7 @@ use crate::ready::{Place, Ready};
 use crate::schedule::Schedule;
 use crate::transfer::{Transfer, put};
 use crate::wire::{Clock, Dial, Turned, Wire};
+use bundle::MOST_HOSTS;
 use cache_trait::Cache;
 use futures::task::{Context, Poll};
 use std::alloc::{AllocError, Global};
@@ -110,19 +111,21 @@ impl<W: Wire> Slab<W> {
     pub fn new(alloc: Global) -> Result<Slab<W>, AllocError>
         ensures { IfOk result (λ made. made.slots ≡ []) }
     {
-        Slab::with_room(alloc, 0)
+        Slab::with_room(alloc, 0, MOST_HOSTS as usize)
     }
 
-    /// A slab without transfers, with memory for so many: joining takes none while there are fewer.
+    /// Returns a slab without transfers, with memory for `room` transfers: joining takes none while
+    /// there are fewer. The sites of its transfers are below `site_count`. A transfer at another
+    /// site is polled in each round while it waits for a connection.
     ///
     /// # Errors
     ///
-    /// There is no memory for them, or there are more than 2^32.
-    pub fn with_room(alloc: Global, room: usize) -> Result<Slab<W>, AllocError>
+    /// There is no memory for them, or there are more than 2^32 transfers.
+    pub fn with_room(alloc: Global, room: usize, site_count: usize) -> Result<Slab<W>, AllocError>
         ensures empty { IfOk result (λ made. made.slots ≡ []) }
         ensures room { IfOk result (λ made. made.room ≡ room) }
     {
-        let schedule = Schedule::with_room(alloc, room)?;
+        let schedule = Schedule::with_room(alloc, room, site_count)?;
         let slots = Vec::with_capacity(alloc, room)?;
         Ok(Slab {
             slots,

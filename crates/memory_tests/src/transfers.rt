@@ -243,7 +243,7 @@ fn want_of_memory_leaves_the_room_of_a_slab(rt: HostRuntime) {
     let Some(third) = prepared_for(rt.alloc(), "http://example.com/") else {
         return;
     };
-    let Ok(mut slab) = Slab::with_room(rt.alloc(), 2) else {
+    let Ok(mut slab) = Slab::with_room(rt.alloc(), 2, 1) else {
         return;
     };
     let mut dial = MemoryDial::new(rt.alloc());
