@@ -51,7 +51,7 @@ def blocked_reader():
     with Server(servers.takes(0.05)) as server, tempfile.NamedTemporaryFile("w", encoding="utf8", suffix=".urls") as file:
         file.write("".join(f"http://127.0.0.1:{server.port}/{number}\n" for number in range(1, MANY + 1)))
         file.flush()
-        words = ["get", "--parallel", "64", "--timeout", "1", "--file", file.name]
+        words = ["get", "--parallel", "64", "--timeout", "2", "--file", file.name]
         with running([programs.curlpool(), *words]) as run:
             time.sleep(BLOCKED)
             output, errors = run.communicate(timeout=SECONDS)

@@ -291,7 +291,7 @@ fn run_by<R: Abort + AllocGlobal + RandomSource + Wait, T: Timer>(
     let mut pool = pool_of(rt, 1);
     let mut jobs = Listed::new(rt, count);
     let mut report = Report::new(rt.alloc());
-    let places = RunLoop::new(rt.alloc(), 2, task).expect(rt, "memory");
+    let places = RunLoop::new(rt.alloc(), 2, 1, task).expect(rt, "memory");
     let end = places.run(rt, &mut pool, dial, &mut jobs, &mut report, timer);
     (end, report)
 }
@@ -354,7 +354,7 @@ fn run_after<R: Abort + AllocGlobal + RandomSource + Wait>(
     let mut jobs = Listed::new(rt, 2);
     let mut report = Report::new(rt.alloc());
     // with a place more than jobs, the first round finds that no job is left
-    let mut run = RunLoop::new(rt.alloc(), 3, task).expect(rt, "memory");
+    let mut run = RunLoop::new(rt.alloc(), 3, 1, task).expect(rt, "memory");
     let end = run.run_on(
         until,
         rt,
@@ -463,4 +463,53 @@ fn a_job_over_its_limit_is_cancelled(rt: HostRuntime) {
         check_eq(&rt, report.text.as_str(), *lines);
         assert!(rt; report.is_ordered, "{number}");
     }
+}
+
+/// A report whose output blocks for two seconds at each line.
+#[derive(Drop)]
+struct Blocking<'a> {
+    report: Report,
+    clock: &'a Limited,
+}
+
+impl Results for Blocking<'_> {
+    ghost use Rattle.std.specs.Prelude.{⊤};
+
+    ghost took = { λ old new number done span. ⊤ };
+
+    fn take(&mut self, number: u64, done: Done, span: Span) {
+        self.report.take(number, done, span);
+        self.clock.micros.fetch_add(2_000_000, Ordering::SeqCst);
+    }
+}
+
+#[test]
+fn a_blocked_output_does_not_count_against_a_limit(rt: HostRuntime) {
+    let mut wire = wire_for(&rt, 2);
+    // the second job's response has not arrived when its request is sent
+    wire.halt_read(2, Halt::NotYet);
+    let mut dial = dial_of(&rt, wire);
+    let script = [Ready::Nothing; 8];
+    dial.tell(&script).expect(&rt, "memory");
+    let timer = Limited {
+        micros: AtomicU64::new(0),
+        number: 1,
+        limit: 1_000_000,
+    };
+    let task = Solo::new(&rt, Doorbell::spinning()).expect(&rt, "a task");
+    let mut pool = pool_of(&rt, 1);
+    let mut jobs = Listed::new(&rt, 2);
+    let mut results = Blocking {
+        report: Report::new(rt.alloc()),
+        clock: &timer,
+    };
+    let places = RunLoop::new(rt.alloc(), 2, 1, task).expect(&rt, "memory");
+    let end = places.run(&rt, &mut pool, &mut dial, &mut jobs, &mut results, &timer);
+    check_eq(&rt, end, RunEnd::Complete);
+    check_eq(
+        &rt,
+        results.report.text.as_str(),
+        "0: 200, 2 bytes, new\n\
+         1: 200, 2 bytes, reused\n",
+    );
 }

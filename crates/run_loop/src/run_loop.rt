@@ -17,6 +17,7 @@ use crate::late::LateGrants;
 use crate::results::Results;
 use crate::run_end::RunEnd;
 use crate::spares::Spares;
+use crate::time_limit::LimitStarts;
 use crate::timer::Timer;
 use crate::until::Until;
 use cache_trait::Cache;
@@ -48,6 +49,7 @@ pub struct RunLoop<W: Wire> {
     slab: Slab<W>,
     places: usize,
     begins: Begins,
+    limit_starts: LimitStarts,
     // The moment of the last sweep.
     swept: u64,
     spares: Spares,
@@ -106,21 +108,29 @@ fn poll_round<W: Wire, C: Cache<W>, D: Dial<W>, J: Jobs, R: Results, T: Timer>(
 }
 
 impl<W: Wire> RunLoop<W> {
-    /// Makes a loop with `places` places, in which no job is under way. `task` polls its transfers.
+    /// Makes a loop with `places` places, in which no job is under way. The sites of its jobs are
+    /// below `site_count`. `task` polls its transfers.
     ///
     /// # Errors
     ///
-    /// There is no memory for the places.
-    pub fn new(alloc: Global, places: usize, task: Solo) -> Result<RunLoop<W>, AllocError>
+    /// There is no memory for the places and sites.
+    pub fn new(
+        alloc: Global,
+        places: usize,
+        site_count: usize,
+        task: Solo,
+    ) -> Result<RunLoop<W>, AllocError>
         ensures empty { IfOk result (λ made. made.slab.slots ≡ []) }
         ensures fresh { IfOk result (λ made. made.begins.moments.items ≡ replicate places None) }
     {
         let spares = Spares::new(alloc, places)?;
         let begins = Begins::new(alloc, places)?;
+        let limit_starts = LimitStarts::new(alloc, places)?;
         Ok(RunLoop {
-            slab: Slab::with_room(alloc, places)?,
+            slab: Slab::with_room(alloc, places, site_count)?,
             places,
             begins,
+            limit_starts,
             swept: 0,
             spares,
             task,
@@ -213,6 +223,7 @@ impl<W: Wire> RunLoop<W> {
             slab,
             places: _,
             begins: _,
+            limit_starts: _,
             swept: _,
             spares: _,
             task: _,
@@ -436,7 +447,9 @@ impl<W: Wire> RunLoop<W> {
         };
         match self.slab.join(parts, cache, timer) {
             Ok(place) => {
-                self.begins.begin(place, timer.moment());
+                let now = timer.moment();
+                self.begins.begin(place, now);
+                self.limit_starts.set(place, now);
                 true
             }
             Err(unused) => {
@@ -518,10 +531,10 @@ impl<W: Wire> RunLoop<W> {
         let Some(number) = self.slab.transfer_at(place) else {
             return;
         };
-        let Some(began) = self.begins.began(place) else {
+        let Some(start) = self.limit_starts.at(place) else {
             return;
         };
-        if !timer.stops(number, began, self.turned) {
+        if !timer.stops(number, start, self.turned) {
             return;
         }
         let phases = self.slab.phases_at(place);
@@ -624,7 +637,9 @@ impl<W: Wire> RunLoop<W> {
         }
         timer.fall_asleep();
         self.hear(timer.rings());
-        self.turned = timer.moment();
+        let now = timer.moment();
+        self.limit_starts.delay(self.turned, now);
+        self.turned = now;
         let turned = self.slab.turn(dial, most);
         let rings = timer.rings();
         let was_rung = timer.wake_up();

@@ -24,9 +24,10 @@ pub trait Timer: MicroClock {
     /// The job of that number may be stopped.
     ghost may_stop: { Self → ℕ → Type 0 };
 
-    /// True if the job of that number, which began at `began`, is to be stopped: it has reached its
-    /// time limit at `now`, or its result is no longer wanted. `now` is a moment before the last
-    /// turn of the dial: all bytes that had arrived by then have been read.
+    /// True if the job of that number is to be stopped: it has reached its time limit at `now`, or
+    /// its result is no longer wanted. `began` is the moment at which it began, later by the time for
+    /// which the loop was held up since then. `now` is a moment before the last turn of the dial:
+    /// all bytes that had arrived by then have been read.
     fn stops(&self, number: u64, began: u64, now: u64) -> bool
         ensures { OnTrue result (may_stop self.now number) };
 

@@ -13,7 +13,7 @@ ghost use Rattle.driver.specs.ManyWork.{IsHiredLoop, AllBegin, handed_in};
 use crate::many::worker::{Finished, LoopWorker, Ready, Tools};
 use crate::storage::{MOST_JOBS, tasks_for};
 use budget::Pass;
-use bundle::Did;
+use bundle::{Did, MOST_HOSTS};
 use exchange::{Dial, Wire};
 use futures::task::Solo;
 use job_counter::{Claim, ClaimSeat};
@@ -107,7 +107,7 @@ fn loops_for<W: Wire>(
     let mut loops = Vec::with_capacity(alloc, count)?;
     while let Some(task) = tasks.pop() {
         let share = places_of(tasks.len(), count, places);
-        match RunLoop::new(alloc, share, task) {
+        match RunLoop::new(alloc, share, MOST_HOSTS as usize, task) {
             Ok(made) => loops.push_reserved(made),
             Err(error) => {
                 destroy_all(loops);

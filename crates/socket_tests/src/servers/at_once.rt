@@ -191,7 +191,7 @@ fn run_over<R: RandomSource + AllocGlobal + Wait>(
         drawn: Vec::new(rt.alloc()),
     };
     let task = Solo::new(rt, Doorbell::spinning())?;
-    let places = RunLoop::new(rt.alloc(), 2, task)?;
+    let places = RunLoop::new(rt.alloc(), 2, 1, task)?;
     let end = places.run(rt, pool, dial, &mut listed, &mut counts, &Still);
     Ok((end, counts))
 }
