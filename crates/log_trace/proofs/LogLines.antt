@@ -1,47 +1,34 @@
--- The lines of logs, one after the other.
-use Rattle.std.proofs.Common.{◌≡◌, ℕ, suc, ◌+◌, ◌<◌, List, [], ◌∷◌, ◌++◌, length, take, get_or, reverse, flat_map, sym, ap, ◌∙◌, arith, append-nil, append_assoc}
-use Rattle.std.specs.Global.{Vec}
-use Rattle.std.proofs.lemmas.List.{flat_map_more, take_more, length-take}
+-- The lines of a log, one entry after the other.
+use Rattle.std.proofs.Common.{◌≡◌, ℕ, ◌+◌, ◌<◌, false, List, [], ◌∷◌, ◌++◌, length, take, get_or, reverse, sym, ap, ◌∙◌, append-nil, append_assoc}
+use Rattle.std.proofs.lemmas.List.{reverse-append, take_more}
 use Rattle.conn_log.specs.declared.entry.Entry.{Entry}
+use Rattle.conn_log.specs.declared.entry.Event.TheVariants.{Opened}
 use Rattle.conn_log.proofs.Logs.{reverse_take_more}
-use Rattle.log_trace.specs.Lines.{all_lines, lines_of, log_lines, site_line}
+use Rattle.log_trace.specs.Lines.{lines_of, part_lines}
 
--- one more site
-pub site_written : (old before new : List ℕ) (ports : List ℕ) (index : ℕ) → index < length ports → before ≡ old ++ flat_map site_line (take index ports)
-    → new ≡ before ++ site_line (get_or ports index 0) → new ≡ old ++ flat_map site_line (take (index + 1) ports)
-site_written old before new ports index within so_far written =
-    let port : ℕ = get_or ports index 0 in
-    written
-    ∙ ap (λ text. text ++ site_line port) so_far
-    ∙ flat_map_more site_line old (take index ports) port
-    ∙ ap (λ some. old ++ flat_map site_line some) (sym (take_more ports index 0 within))
+-- what a loop over entries reads past their end
+abbrev pub no_entry : Entry
+no_entry = record { moment = 0; event = Opened 0 (record { transfer = 0; max_age = 0; max_life = 0; lane = 0; fresh = false; forbid_reuse = false }) }
+
+part_lines_push : (host : ℕ) (before part : List Entry) (e : Entry) → part_lines host before (part ++ (e ∷ [])) ≡ part_lines host before part ++ lines_of host (reverse part ++ before) e
+part_lines_push host before [] e = append-nil (lines_of host before e)
+part_lines_push host before (next ∷ part) e =
+    ap (λ text. lines_of host before next ++ text) (part_lines_push host (next ∷ before) part e)
+    ∙ sym (append_assoc (lines_of host before next) (part_lines host (next ∷ before) part) (lines_of host (reverse part ++ (next ∷ before)) e))
+    ∙ ap (λ log. (lines_of host before next ++ part_lines host (next ∷ before) part) ++ lines_of host log e) (sym (ap (λ log. log ++ before) (reverse-append (next ∷ []) part) ∙ append_assoc (reverse part) (next ∷ []) before))
 
 -- one more entry
-pub entry_written : (host : ℕ) (old before new : List ℕ) (log : List Entry) (index : ℕ) (entry : Entry) → index < length log → before ≡ old ++ log_lines host (reverse (take index log))
-    → new ≡ before ++ lines_of host (reverse (take index log)) (get_or log index entry) → new ≡ old ++ log_lines host (reverse (take (index + 1) log))
-entry_written host old before new log index entry within so_far written =
-    let some : List Entry = reverse (take index log) in
-    let next : Entry = get_or log index entry in
+pub entry_written : (host : ℕ) (before : List Entry) (old now new : List ℕ) (part : List Entry) (index : ℕ) (entry : Entry) → index < length part → now ≡ old ++ part_lines host before (take index part)
+    → new ≡ now ++ lines_of host (reverse (take index part) ++ before) (get_or part index entry) → new ≡ old ++ part_lines host before (take (index + 1) part)
+entry_written host before old now new part index entry within so_far written =
+    let some : List Entry = take index part in
+    let next : Entry = get_or part index entry in
     written
-    ∙ ap (λ text. text ++ lines_of host some next) so_far
-    ∙ append_assoc old (log_lines host some) (lines_of host some next)
-    ∙ ap (λ front. old ++ log_lines host front) (sym (reverse_take_more log index entry within))
+    ∙ ap (λ text. text ++ lines_of host (reverse some ++ before) next) so_far
+    ∙ append_assoc old (part_lines host before some) (lines_of host (reverse some ++ before) next)
+    ∙ ap (λ lines. old ++ lines) (sym (part_lines_push host before some next))
+    ∙ ap (λ front. old ++ part_lines host before front) (sym (take_more part index entry within))
 
-all_lines_push : (first : ℕ) (logs : List (Vec Entry)) (log : Vec Entry) → all_lines first (logs ++ (log ∷ [])) ≡ all_lines first logs ++ log_lines (first + length logs) (reverse log.items)
-all_lines_push first [] log = append-nil (log_lines first (reverse log.items)) ∙ ap (λ index. log_lines index (reverse log.items)) {x = first} {y = first + 0} (omega arith)
-all_lines_push first (next ∷ logs) log =
-    ap (λ text. log_lines first (reverse next.items) ++ text)
-    (all_lines_push (first + 1) logs log ∙ ap (λ index. all_lines (first + 1) logs ++ log_lines index (reverse log.items)) {x = first + 1 + length logs} {y = first + suc (length logs)} (omega arith))
-    ∙ sym (append_assoc (log_lines first (reverse next.items)) (all_lines (first + 1) logs) (log_lines (first + suc (length logs)) (reverse log.items)))
-
--- one more log
-pub log_written : (old before new : List ℕ) (logs : List (Vec Entry)) (index : ℕ) (none : Vec Entry) → index < length logs → before ≡ old ++ all_lines 0 (take index logs)
-    → new ≡ before ++ log_lines index (reverse (get_or logs index none).items) → new ≡ old ++ all_lines 0 (take (index + 1) logs)
-log_written old before new logs index none within so_far written =
-    let log : Vec Entry = get_or logs index none in
-    let count : index ≡ 0 + length (take index logs) = omega (arith, length-take index logs) in
-    written
-    ∙ (λ i. so_far i ++ log_lines (count i) (reverse log.items))
-    ∙ append_assoc old (all_lines 0 (take index logs)) (log_lines (0 + length (take index logs)) (reverse log.items))
-    ∙ ap (λ text. old ++ text) (sym (all_lines_push 0 (take index logs) log))
-    ∙ ap (λ some. old ++ all_lines 0 some) (sym (take_more logs index none within))
+-- the log with one more entry
+pub log_so_far : (before part : List Entry) (index : ℕ) (entry : Entry) → index < length part → reverse (take (index + 1) part) ++ before ≡ get_or part index entry ∷ (reverse (take index part) ++ before)
+log_so_far before part index entry within = ap (λ log. log ++ before) (reverse_take_more part index entry within)

@@ -1,8 +1,6 @@
 -- The trace of logs. A log is read with its newest entry first.
-use Rattle.std.specs.Prelude.{ℕ, ◌+◌, if◌then◌else◌, codes, List, [], ◌∷◌, ◌++◌, reverse, unwrap_or}
+use Rattle.std.specs.Prelude.{ℕ, if◌then◌else◌, codes, List, [], ◌∷◌, ◌++◌, unwrap_or}
 use Rattle.std.specs.Fmt.{decimal}
-use Rattle.std.specs.List.{flat_map}
-use Rattle.std.specs.Global.{Vec}
 use Rattle.conn_log.specs.declared.entry.Event.{Event}
 use Rattle.conn_log.specs.declared.entry.Event.TheVariants.{Opened, Leased, Returned, Waited}
 use Rattle.conn_log.specs.declared.entry.Entry.{Entry}
@@ -29,24 +27,15 @@ asked_by host before moment _ = []
 abbrev pub lines_of : ℕ → List Entry → Entry → List ℕ
 lines_of host before e = asked_by host before e.moment e.event ++ entry_line host (returned_by before e.event) e
 
--- the lines of a host's log
-abbrev pub log_lines : ℕ → List Entry → List ℕ
-log_lines host [] = []
-log_lines host (e ∷ before) = log_lines host before ++ lines_of host before e
-
--- the lines of logs, each with its oldest entry first, of hosts the first of which has that index
-abbrev pub all_lines : ℕ → List (Vec Entry) → List ℕ
-all_lines host [] = []
-all_lines host (log ∷ logs) = log_lines host (reverse log.items) ++ all_lines (host + 1) logs
+-- the lines of the next entries of a host's log, oldest entry first
+abbrev pub part_lines : ℕ → List Entry → List Entry → List ℕ
+part_lines host before [] = []
+part_lines host before (e ∷ part) = lines_of host before e ++ part_lines host (e ∷ before) part
 
 -- the order, and the limits
 abbrev pub limits_lines : Limits → List ℕ
 limits_lines limits = codes "order host\nlimits " ++ (decimal limits.host ++ (codes " " ++ (decimal limits.total ++ (codes " " ++ (decimal limits.kept ++ codes "\n")))))
 
--- a host of this machine
-abbrev pub site_line : ℕ → List ℕ
-site_line port = codes "site http://127.0.0.1:" ++ (decimal port ++ codes "/\n")
-
--- the whole trace
-abbrev pub trace_text : Limits → List ℕ → List (Vec Entry) → List ℕ
-trace_text limits ports logs = limits_lines limits ++ (flat_map site_line ports ++ all_lines 0 logs)
+-- a site: the host and the port of its URL
+abbrev pub site_line : List ℕ → ℕ → List ℕ
+site_line host port = codes "site http://" ++ (host ++ (codes ":" ++ (decimal port ++ codes "/\n")))

@@ -1,8 +1,10 @@
-//! The trace of logs: what each log of several hosts tells, in the lines of a trace.
+//! Writes the logs of hosts as a trace.
 #![tactic(auto)]
 
 mod asking;
-mod trace;
+mod head;
+mod host_trace;
 mod uses;
 
-pub use trace::trace_of;
+pub use head::{add_limits, add_site};
+pub use host_trace::HostTrace;

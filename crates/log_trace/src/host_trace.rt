@@ -1,77 +1,64 @@
-//! The trace of logs of several hosts.
+//! The log of one host as lines of a trace, part by part.
 
-ghost use Rattle.std.specs.Prelude.{◌≡◌, ◌≤◌, ◌++◌, List, length, reverse, unwrap_or};
+ghost use Rattle.std.specs.Prelude.{◌≡◌, ◌++◌, List, [], reverse, unwrap_or};
 ghost use Rattle.std.specs.Prelude.{IfOk, OnOk, string_bytes};
-ghost use Rattle.std.specs.List.{flat_map};
 ghost use Rattle.conn_log.specs.declared.entry.Entry.{Entry};
 ghost use Rattle.script_text.specs.Printing.{entry_line, returned_by};
 ghost use Rattle.log_trace.specs.Asking.{get_line};
-ghost use Rattle.log_trace.specs.Lines.{asked_by, limits_lines, lines_of, log_lines, site_line};
-ghost use Rattle.log_trace.specs.Lines.{start_asked, trace_text};
+ghost use Rattle.log_trace.specs.Lines.{asked_by, lines_of, part_lines, start_asked};
 ghost use Rattle.log_trace.specs.Uses.{AreUsesOf};
 
 use crate::asking::{BackLine, GetLine};
 use crate::uses::Uses;
 use conn_log::{Entry, Event, Log, Want};
-use script_text::{Limits, lines_since};
+use script_text::lines_since;
 use std::alloc::{AllocError, Global};
 use std::fmt::Write;
 
-/// The trace of the logs of hosts at these ports of 127.0.0.1, under these limits. Each log has its
-/// oldest entry first. The trace has lines in order within each host alone (`order host`). A line
-/// that asks stands before each wait, each return, and each start of a transfer that didn't wait.
-///
-/// # Errors
-///
-/// There is no memory for it.
-pub fn trace_of(
-    alloc: Global,
-    limits: Limits,
-    ports: &[u16],
-    logs: &[Vec<Entry>],
-) -> Result<String, AllocError>
-    requires { length logs.now ≤ 1024 }
-    ensures { IfOk result (λ text. string_bytes text ≡ trace_text limits ports.now logs.now) }
-{
-    let mut text = String::new(alloc);
-    add_limits(&mut text, limits)?;
-    add_sites(&mut text, ports)?;
-    for (host, log) in logs.iter().enumerate() {
-        add_log(alloc, &mut text, host as u32, log)?;
-    }
-    Ok(text)
+/// Writes the log of one host as lines of a trace, part by part as the log is cut. The line of a
+/// request comes before each wait, each return, and each start of a transfer that did not wait.
+#[derive(Drop)]
+pub struct HostTrace {
+    host: u32,
+    uses: Uses,
 }
 
-// Adds the order, and the limits.
-fn add_limits(text: &mut String, limits: Limits) -> Result<(), AllocError>
-    ensures { OnOk result (string_bytes text.new ≡ string_bytes text.old ++ limits_lines limits) }
-{
-    let Limits { host, total, kept } = limits;
-    write!(text, "order host\nlimits {host} {total} {kept}\n")
-}
-
-// Adds the line of each site.
-fn add_sites(text: &mut String, ports: &[u16]) -> Result<(), AllocError>
-    ensures { OnOk result (string_bytes text.new
-        ≡ string_bytes text.old ++ flat_map site_line ports.now) }
-{
-    for port in ports {
-        write!(text, "site http://127.0.0.1:{port}/\n")?;
+impl HostTrace {
+    /// The trace of the host with that index, whose log has no entry yet.
+    pub fn new(alloc: Global, host: u32) -> HostTrace
+        ensures host { result.host ≡ host }
+        ensures uses { AreUsesOf [] result.uses }
+    {
+        HostTrace {
+            host,
+            uses: Uses::new(alloc),
+        }
     }
-    Ok(())
-}
 
-// Adds the lines of a host's log, oldest entry first.
-fn add_log(alloc: Global, text: &mut String, host: u32, log: &[Entry]) -> Result<(), AllocError>
-    ensures { OnOk result (string_bytes text.new
-        ≡ string_bytes text.old ++ log_lines host (reverse log.now)) }
-{
-    let mut uses = Uses::new(alloc);
-    for entry in log {
-        add_entry(alloc, text, host, &uses, *entry)?;
-        uses.add(entry.event)?;
+    /// Adds the lines of the next entries of the host's log, oldest entry first.
+    ///
+    /// # Errors
+    ///
+    /// Memory ran out. The trace cannot be continued.
+    pub fn add_part(
+        &mut self,
+        alloc: Global,
+        text: &mut String,
+        part: &[Entry],
+    ) -> Result<(), AllocError>
+        ensures host { self.new.host ≡ self.old.host }
+        ensures lines { (before : List Entry) → AreUsesOf before self.old.uses → OnOk result
+            (string_bytes text.new
+            ≡ string_bytes text.old ++ part_lines self.old.host before part.now) }
+        ensures uses { (before : List Entry) → AreUsesOf before self.old.uses → OnOk result
+            (AreUsesOf (reverse part.now ++ before) self.new.uses) }
+    {
+        for entry in part {
+            add_entry(alloc, text, self.host, &self.uses, *entry)?;
+            self.uses.add(entry.event)?;
+        }
+        Ok(())
     }
-    Ok(())
 }
 
 // Adds the lines of an entry that follows where connections are used so.
