@@ -17,7 +17,7 @@ at-past [] place past = refl
 at-past (first ∷ intervals) zero past = absurd (omega arith)
 at-past (first ∷ intervals) (suc place) past = at-past intervals place (omega arith)
 
-each_with-zeros : (n : ℕ) → each_with capped_slices (replicate n 0) (replicate n 0) ≡ replicate n 0
+pub each_with-zeros : (n : ℕ) → each_with capped_slices (replicate n 0) (replicate n 0) ≡ replicate n 0
 each_with-zeros zero = refl
 each_with-zeros (suc n) = ap (λ rest. 0 ∷ rest) (each_with-zeros n)
 

@@ -1,5 +1,6 @@
 -- What is counted in the intervals of a load.
-use Rattle.std.specs.Prelude.{◌≡◌, ◌≢◌, ℕ, zero, suc, ◌+◌, ◌-◌, ◌*◌, ◌/◌, ◌^◌, ◌<◌, ◌≤◌, max, min, Bool, List, [], ◌∷◌, Option, Some, None, length, replicate, slice_index, slice_index_or, slice_set, sum}
+use Rattle.std.specs.Prelude.{◌≡◌, ◌≢◌, ◌⊎◌, ℕ, zero, suc, ◌+◌, ◌-◌, ◌*◌, ◌/◌, ◌^◌, ◌<◌, ◌≤◌, max, min, Bool, List, [], ◌∷◌, Option, Some, None, length, replicate, slice_index, slice_index_or, slice_set, sum, vec_capacity}
+use Rattle.std.specs.Global.{Vec}
 use Rattle.histogram.specs.Buckets.{bucket_of, highest_of}
 use Rattle.histogram.specs.Percentiles.{IsBucketAt}
 use Rattle.load_figures.specs.Counts.{capped, each_with, more_if}
@@ -15,6 +16,15 @@ pub record IntervalCounts : Type 0 where
 -- no job
 abbrev pub no_interval : IntervalCounts
 no_interval = record { requests = 0; failed = 0; greatest = 0; slices = replicate 832 0 }
+
+-- the slices of an interval as they are kept: none without a latency
+abbrev pub slices_in : List ℕ → List ℕ
+slices_in [] = replicate 832 0
+slices_in (count ∷ counts) = count ∷ counts
+
+-- all slices are written, or none; and they have their memory
+abbrev pub HasSlices : Vec ℕ → Type 0
+HasSlices slices = ((slices.items ≡ []) ⊎ (length slices.items ≡ 832)) × (832 ≤ vec_capacity slices)
 
 -- the count of a slice: one past the greatest u32 stays there
 abbrev pub capped_slices : ℕ → ℕ → ℕ

@@ -4,8 +4,8 @@ ghost use Rattle.std.specs.Prelude.{◌≡◌, ◌+◌, ◌*◌, ◌/◌, ◌<�
 ghost use Rattle.std.specs.Prelude.{IfSome};
 ghost use Rattle.histogram.specs.Percentiles.{IsBucketAt};
 ghost use Rattle.load_figures.specs.Counts.{capped, each_with};
-ghost use Rattle.load_figures.specs.Intervals.{both, capped_slices, no_interval, with_job};
-ghost use Rattle.load_figures.specs.Intervals.{IsLatencyAt};
+ghost use Rattle.load_figures.specs.Intervals.{both, capped_slices, no_interval, slices_in};
+ghost use Rattle.load_figures.specs.Intervals.{with_job, HasSlices, IsLatencyAt};
 
 use histogram::{bucket_of, highest_of};
 use std::alloc::{AllocError, Global};
@@ -17,24 +17,28 @@ const BUCKETS_OF_A_SLICE: usize = 4;
 /// How many slices an interval has.
 const SLICES: usize = 832;
 
+/// The slices of an interval without a latency.
+static NO_LATENCY: [u32; SLICES] = [0; SLICES];
+
 /// The greatest latency that has a slice, in microseconds: some 71 minutes. A greater one is
 /// counted in that slice.
 const GREATEST: u64 = 4_294_967_295;
 
 /// What is counted in one interval of a load. Latencies fall into slices of four buckets of a
 /// histogram, so that a percentile is known to 3 microseconds or 3.2 percent. Its memory, some
-/// 3.3 KB, is taken as it is made. A count that would pass its greatest stays there.
+/// 3.3 KB, is taken as it is made, but not written before the first latency, since most intervals
+/// of a load have none. A count that would pass its greatest stays there.
 #[derive(Drop)]
 pub(crate) struct Interval {
     requests: u64,
     failed: u64,
     greatest: u64,
+    /// Empty without a latency, which counts as 0 in each slice.
     slices: Vec<u32>,
 }
 
 impl Model for Interval {
-    ghost use Rattle.std.specs.Prelude.{◌≡◌, length};
-    ghost use Rattle.load_figures.specs.Intervals.{IntervalCounts};
+    ghost use Rattle.load_figures.specs.Intervals.{HasSlices, IntervalCounts, slices_in};
 
     ghost Value = { IntervalCounts };
 
@@ -42,10 +46,10 @@ impl Model for Interval {
       requests = i.requests;
       failed = i.failed;
       greatest = i.greatest;
-      slices = i.slices.items;
+      slices = slices_in i.slices.items;
     } };
 
-    ghost invariant = { λ i. length i.slices.items ≡ 832 };
+    ghost invariant = { λ i. HasSlices i.slices };
 }
 
 impl Interval {
@@ -53,8 +57,7 @@ impl Interval {
     pub(crate) fn new(alloc: Global) -> Result<Interval, AllocError>
         ensures { IfOk result (λ interval. interval ≡ no_interval) }
     {
-        let mut slices = Vec::new(alloc);
-        slices.resize(SLICES, 0)?;
+        let slices = Vec::with_capacity(alloc, SLICES)?;
         Ok(Interval {
             requests: 0,
             failed: 0,
@@ -76,6 +79,7 @@ impl Interval {
         };
         self.greatest = self.greatest.max(latency_us);
         let slice = bucket_of(latency_us.min(GREATEST)) / BUCKETS_OF_A_SLICE;
+        write_slices(&mut self.slices);
         if slice < SLICES {
             self.slices[slice] = self.slices[slice].saturating_add(1);
         }
@@ -88,7 +92,7 @@ impl Interval {
         self.requests = self.requests.saturating_add(other.requests);
         self.failed = self.failed.saturating_add(other.failed);
         self.greatest = self.greatest.max(other.greatest);
-        add_slices(&mut self.slices, &other.slices);
+        join_slices(&mut self.slices, &other.slices);
     }
 
     /// Forgets all that it counted.
@@ -98,7 +102,7 @@ impl Interval {
         self.requests = 0;
         self.failed = 0;
         self.greatest = 0;
-        self.slices.fill(0);
+        self.slices.clear();
     }
 
     /// How many jobs were done.
@@ -127,10 +131,57 @@ impl Interval {
     pub(crate) fn latency_at(&self, hundredths: u64) -> Option<u64>
         ensures { IfSome result (IsLatencyAt self.now hundredths) }
     {
+        if self.slices.is_empty() {
+            return None;
+        }
         let share = (slice_sum(&self.slices) as u128 * hundredths as u128 + 99) / 100;
         let slice = slice_at(&self.slices, share.max(1))?;
         let last = slice * BUCKETS_OF_A_SLICE + (BUCKETS_OF_A_SLICE - 1);
         Some(highest_of(last).min(self.greatest))
+    }
+}
+
+/// Writes the slices of an interval without a latency.
+fn write_slices(slices: &mut Vec<u32>)
+    requires { HasSlices slices.old }
+    ensures items { slices.new.items ≡ slices_in slices.old.items }
+    ensures has { HasSlices slices.new }
+    ensures written { length slices.new.items ≡ 832 }
+{
+    if !slices.is_empty() {
+        return;
+    }
+    match slices.resize(SLICES, 0) {
+        Ok(()) => {}
+        Err(_) => unreachable!(),
+    }
+}
+
+/// Adds the slices of another interval.
+fn join_slices(slices: &mut Vec<u32>, others: &Vec<u32>)
+    requires slices { HasSlices slices.old }
+    requires others { HasSlices others.now }
+    ensures joined { slices_in slices.new.items
+        ≡ each_with capped_slices (slices_in slices.old.items) (slices_in others.now.items) }
+    ensures has { HasSlices slices.new }
+{
+    if slices.is_empty() && others.is_empty() {
+        return;
+    }
+    write_slices(slices);
+    add_slices(slices, all_slices(others));
+}
+
+/// Returns all slices of an interval.
+fn all_slices(slices: &Vec<u32>) -> &[u32]
+    requires { HasSlices slices.now }
+    ensures slices { result.now ≡ slices_in slices.now.items }
+    ensures all { length result.now ≡ 832 }
+{
+    if slices.is_empty() {
+        &NO_LATENCY
+    } else {
+        slices
     }
 }
 
