@@ -6,6 +6,7 @@ use Rattle.std.specs.List.{All, Contains}
 use Rattle.std.specs.List.Sorted.{IsPermutation}
 use Rattle.std.proofs.KnownBytes.{Appends-trans}
 use Rattle.std.proofs.lemmas.List.{flat_map_more, length-append, map-append}
+use Rattle.std.proofs.lemmas.List.Edits.{length-remove}
 use Rattle.std.proofs.lemmas.List.Elements.{All-get_or, All-push, All-tail, All-weaker, Contains-append_right}
 use Rattle.std.proofs.lemmas.List.Sorted.{All-permutation, IsPermutation-map, IsPermutation-append_left, IsPermutation-pop_more, IsPermutation-remove}
 use Rattle.std.proofs.lemmas.List.Sums.{sum_by_push}
@@ -102,7 +103,8 @@ module _ (options : CrawlOptions) (jobs : List Job) (given queued : List Text) (
       let each : IsPermutation given ((urls ++ url ∷ []) ++ (urls_in_flight left ++ queued)) =
       IsPermutation-pop_more given urls (urls_in_flight flying ++ queued) (urls_in_flight left ++ queued) url a.each urls_moved in
       let more = urls_more a.lines w.line url w.its_url in
-      let none = λ (p : options.parallel ≡ 1). w.left ∙ (only_one flying w.place w.one (a.at_most_one p) w.below w.there).1 in
+      let one_at_most = λ (p : options.parallel ≡ 1). subst (λ n. length flying ≤ n) p a.at_most in
+      let none = λ (p : options.parallel ≡ 1). w.left ∙ (only_one flying w.place w.one (one_at_most p) w.below w.there).1 in
       record {
         lines = a.lines ++ w.line ∷ [];
         are = lines_more a.lines w.line first old.stream new.stream new.fault (subst (AreWritten a.lines first old.stream) w.writes.whole a.are) w.writes.puts;
@@ -111,25 +113,25 @@ module _ (options : CrawlOptions) (jobs : List Job) (given queued : List Text) (
         each = subst (λ (us : List Text). IsPermutation given (us ++ (urls_in_flight new.in_flight ++ queued))) (sym more)
             (subst (λ (fs : List InFlight). IsPermutation given ((urls ++ url ∷ []) ++ (urls_in_flight fs ++ queued))) (sym w.left) each);
         order = λ p. (
-            let now : given ≡ urls ++ (url ∷ queued) = subst (λ (fs : List InFlight). given ≡ urls ++ (urls_in_flight fs ++ queued)) (only_one flying w.place w.one (a.at_most_one p) w.below w.there).0 (a.order p) in
+            let now : given ≡ urls ++ (url ∷ queued) = subst (λ (fs : List InFlight). given ≡ urls ++ (urls_in_flight fs ++ queued)) (only_one flying w.place w.one (one_at_most p) w.below w.there).0 (a.order p) in
             subst (λ (us : List Text). given ≡ us ++ (urls_in_flight new.in_flight ++ queued)) (sym more)
             (subst (λ (fs : List InFlight). given ≡ (urls ++ url ∷ []) ++ (urls_in_flight fs ++ queued)) (sym (none p)) (now ∙ sym (append_assoc urls (url ∷ []) queued))));
-        at_most_one = λ p. subst (λ (fs : List InFlight). length fs ≤ 1) (sym (none p)) (omega arith);
+        at_most = subst (λ (fs : List InFlight). length fs ≤ options.parallel) (sym w.left) (omega (arith, a.at_most, length-remove flying w.place w.below));
         tally = subst (λ (f : CrawlFlags). new.tally ≡ tally_of f (a.lines ++ w.line ∷ [])) (sym w.writes.flags) (tally_more old.flags a.lines w.line old.tally new.tally a.tally w.writes.counts);
       }
 
   -- a result is taken
   takes_one : (results : List JobResult) (result : JobResult) (old new : OutputShown) → AreAccounted options jobs results given queued first old → TakesResult result old new
       → AreAccounted options jobs (result ∷ results) given queued first new
-  takes_one results result old new a (inl same) =
-      subst (AreAccounted options jobs (result ∷ results) given queued first) (sym same) (record {
+  takes_one results result old new a (inl ignores) =
+      subst (AreAccounted options jobs (result ∷ results) given queued first) (sym ignores.same) (record {
         lines = a.lines;
         are = a.are;
         of_results = lines_on options jobs jobs results (result ∷ results) (λ job is. is) (among_rest result results) a.lines a.of_results;
         have_jobs = a.have_jobs;
         each = a.each;
         order = a.order;
-        at_most_one = a.at_most_one;
+        at_most = a.at_most;
         tally = a.tally;
       })
   takes_one results result old new a (inr w) = line_written results result old new a w

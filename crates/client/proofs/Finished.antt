@@ -1,6 +1,6 @@
 -- The end of a crawl.
 use Rattle.std.proofs.Common.{◌≡◌, ℕ, List, [], ◌∷◌, ◌++◌, length, refl, ap, sym, ◌∙◌, subst, arith, rules, append_assoc, inl, inr}
-use Rattle.std.specs.Prelude.{Bool, true, false, not, is_some, Option, Some, None, Result, Ok, Err, IsOk, IfErr, OnOk}
+use Rattle.std.specs.Prelude.{Bool, true, false, not, is_some, Option, Some, None, Result, Ok, Err, IsOk, IfErr}
 use Rattle.std.specs.List.{AllZip}
 use Rattle.std.specs.List.Sorted.{IsPermutation}
 use Rattle.std.proofs.KnownBytes.{Appends-nil}
@@ -11,7 +11,8 @@ use Rattle.exchange.specs.declared.job.Job.{Job}
 use Rattle.run_loop.specs.Taking.{AllTaken, JobResult}
 use Rattle.script_run.specs.Streams.{Stream}
 use Rattle.script_text.specs.declared.fault.FaultKind.{FaultKind}
-use Rattle.client.specs.Crawling.{CrawlGiven, Crawls, HasFetched, IfEnd, IsAt, IsOver, IsSomewhere, jobs_begun}
+use Rattle.script_text.specs.declared.fault.FaultKind.TheVariants.{Memory, Read, Write, ScriptTooLong, LineTooLong, Unknown, Form, Place, BadLimits, BadSite, TooManySites}
+use Rattle.client.specs.Crawling.{CrawlGiven, Crawls, HasFetched, IfEnd, IsAt, IsAtBadUrl, IsEmptied, IsOver, IsSomewhere, LeavesUrls, fault_in, jobs_begun}
 use Rattle.client.specs.Faults.{CanEnd, IsStepFault, line_fault}
 use Rattle.client.specs.FileLines.{urls_in}
 use Rattle.client.specs.Lines.{Text}
@@ -62,10 +63,16 @@ fetches_on crawled crawl first before after more jobs results source queue old n
   at = at_takes crawl (more ++ jobs) results first source took.0 queue old now at took.2;
 }
 
+-- one more call was made, with the jobs that a step began
+pub fetches_begun : {K : Type 0} (crawled : K → K → List Job → List JobResult → Type 0) (crawl : CrawlGiven) (first : Stream) (before after : K) (step : Step) (begun jobs : List Job) (results : List JobResult) (source : Option (List ℕ)) (queue : QueueShown) (old now : OutputShown)
+    → HasCrawled crawled jobs results → jobs_begun step ≡ begun → IsAt crawl (jobs_begun step ++ jobs) results first source queue old → TookAll (crawled before after begun) old now → IsFetching crawled crawl first source queue now
+fetches_begun crawled crawl first before after step begun jobs results source queue old now ran are at took =
+    fetches_on crawled crawl first before after (jobs_begun step) jobs results source queue old now ran at (subst (λ (l : List Job). TookAll (crawled before after l) old now) (sym are) took)
+
 -- all URLs were fetched
-pub fetched_here : {K : Type 0} (crawled : K → K → List Job → List JobResult → Type 0) (crawl : CrawlGiven) (first : Stream) (source : Option (List ℕ)) (queue : QueueShown) (now : OutputShown) (result : Result (Unit {0}) CrawlFault) → IsFetching crawled crawl first source queue now → (IsOk result → now.fault ≡ None → IsOver queue now.in_flight)
+pub fetched_here : {K : Type 0} (crawled : K → K → List Job → List JobResult → Type 0) (crawl : CrawlGiven) (first : Stream) (source : Option (List ℕ)) (queue : QueueShown) (now : OutputShown) (result : Result (Unit {0}) CrawlFault) → IsFetching crawled crawl first source queue now → (now.fault ≡ None → LeavesUrls (fault_in result) queue now.in_flight)
     → IfErr result (CanEnd crawl.options) → HasFetched crawled crawl first now result
-fetched_here crawled crawl first source queue now result f whole ended = record { jobs = f.jobs; results = f.results; ran = f.ran; source = source; queue = queue; at = f.at; whole = whole; ended = ended }
+fetched_here crawled crawl first source queue now result f leaves ended = record { jobs = f.jobs; results = f.results; ran = f.ran; source = source; queue = queue; at = f.at; leaves = leaves; ended = ended }
 
 -- a fault of a step can end a crawl, and is of no line
 step_can_end : (options : CrawlOptions) (fault : CrawlFault) → IsStepFault fault → CanEnd options fault
@@ -73,6 +80,23 @@ step_can_end options (faults.Input kind) is = refl
 step_can_end options (faults.Output kind) is = absurd is
 step_can_end options (faults.Network fault) is = refl
 step_can_end options (faults.BadUrl number) is = absurd is
+
+-- nothing is known of the URLs that it leaves
+step_leaves : (fault : CrawlFault) (queue : QueueShown) (in_flight : List InFlight) → IsStepFault fault → LeavesUrls (Some fault) queue in_flight
+step_leaves (faults.Input Memory) queue in_flight is = tt
+step_leaves (faults.Input Read) queue in_flight is = absurd is
+step_leaves (faults.Input Write) queue in_flight is = tt
+step_leaves (faults.Input ScriptTooLong) queue in_flight is = tt
+step_leaves (faults.Input LineTooLong) queue in_flight is = tt
+step_leaves (faults.Input Unknown) queue in_flight is = tt
+step_leaves (faults.Input Form) queue in_flight is = tt
+step_leaves (faults.Input Place) queue in_flight is = tt
+step_leaves (faults.Input BadLimits) queue in_flight is = tt
+step_leaves (faults.Input BadSite) queue in_flight is = tt
+step_leaves (faults.Input TooManySites) queue in_flight is = tt
+step_leaves (faults.Output kind) queue in_flight is = absurd is
+step_leaves (faults.Network fault) queue in_flight is = tt
+step_leaves (faults.BadUrl number) queue in_flight is = absurd is
 
 pub of_no_line : (fault : CrawlFault) → IsStepFault fault → line_fault (Some fault) ≡ None
 of_no_line (faults.Input kind) is = refl
@@ -90,12 +114,7 @@ end_of_no_line options (Err (faults.BadUrl number)) is = refl
 -- some URLs were fetched before a step failed
 pub stopped_here : {K : Type 0} (crawled : K → K → List Job → List JobResult → Type 0) (crawl : CrawlGiven) (first : Stream) (jobs : List Job) (results : List JobResult) (now : OutputShown) (fault : CrawlFault) → HasCrawled crawled jobs results → IsSomewhere crawl jobs results first now → IsStepFault fault
     → HasFetched crawled crawl first now (Err fault)
-stopped_here crawled crawl first jobs results now fault ran at is = record { jobs = jobs; results = results; ran = ran; source = at.0; queue = at.1; at = at.2; whole = λ ok none. absurd (search (rules, ok)); ended = step_can_end crawl.options fault is }
-
--- a property of success holds, since the call succeeded
-pub at_ok : {A E : Type 0} (r : Result A E) (P : Type 0) → OnOk r P → IsOk r → P
-at_ok (Ok a) P holds is = holds
-at_ok (Err error) P holds is = absurd (search (rules, is))
+stopped_here crawled crawl first jobs results now fault ran at is = record { jobs = jobs; results = results; ran = ran; source = at.0; queue = at.1; at = at.2; leaves = λ none. step_leaves fault at.1 now.in_flight is; ended = step_can_end crawl.options fault is }
 
 -- a step that begins nothing
 pub step_from : (step other : Step) (crawl : CrawlGiven) (jobs : List Job) (results : List JobResult) (first : Stream) (source : Option (List ℕ)) (queue : QueueShown) (now : OutputShown) → step ≡ other → IsAt crawl (jobs_begun step ++ jobs) results first source queue now → IsAt crawl (jobs_begun other ++ jobs) results first source queue now
@@ -105,10 +124,10 @@ pub end_from : (step other : Step) (P : Type 0) → step ≡ other → IfEnd ste
 end_from step other P is holds = subst (λ (s : Step). IfEnd s P) is holds
 
 -- a step after which nothing is in flight
-pub end_idle : (step : Step) (P Q : Type 0) (queue : QueueShown) (in_flight : List InFlight) → in_flight ≡ [] → IfEnd step (P → IsOver queue []) → IfEnd step (P → Q → IsOver queue in_flight)
-end_idle (steps.Fetch jobs) P Q queue in_flight none over = tt
-end_idle steps.Read P Q queue in_flight none over = tt
-end_idle steps.End P Q queue in_flight none over = λ p q. subst (IsOver queue) (sym none) (over p)
+pub end_idle : (step : Step) (P : Type 0) (stop : Option CrawlFault) (queue : QueueShown) (in_flight : List InFlight) → in_flight ≡ [] → IfEnd step (LeavesUrls stop queue []) → IfEnd step (P → LeavesUrls stop queue in_flight)
+end_idle (steps.Fetch jobs) P stop queue in_flight none leaves = tt
+end_idle steps.Read P stop queue in_flight none leaves = tt
+end_idle steps.End P stop queue in_flight none leaves = λ p. subst (LeavesUrls stop queue) (sym none) leaves
 
 -- a step that begins the same jobs
 pub same_jobs : (more others jobs : List Job) (crawl : CrawlGiven) (results : List JobResult) (first : Stream) (source : Option (List ℕ)) (queue : QueueShown) (now : OutputShown) → more ≡ others → IsAt crawl (more ++ jobs) results first source queue now → IsAt crawl (others ++ jobs) results first source queue now
@@ -133,25 +152,37 @@ not_skipped true is = absurd (search (rules, is))
 some_not_none : (fault : NetworkFault) → Some (faults.Network fault) ≡ None → ⊥
 some_not_none fault is = search (rules, is)
 
+network_not_read : (fault : NetworkFault) → Some (faults.Network fault) ≡ Some (faults.Input Read) → ⊥
+network_not_read fault is = search (rules, is)
+
 network_not_bad : (fault : NetworkFault) (number : ℕ) → Some (faults.Network fault) ≡ Some (faults.BadUrl number) → ⊥
 network_not_bad fault number is = search (rules, is)
+
+-- without a fault, all URLs have their lines
+over_if_ok : (ended : Result (Unit {0}) CrawlFault) (queue : QueueShown) (in_flight : List InFlight) → IsOk ended → LeavesUrls (fault_in ended) queue in_flight → IsOver queue in_flight
+over_if_ok (Ok done) queue in_flight ok leaves = leaves
+over_if_ok (Err fault) queue in_flight ok leaves = absurd (search (rules, ok))
+
+-- the URLs without a line, if nothing is in flight
+left_over : (in_flight : List InFlight) (queued left others : List Text) → in_flight ≡ [] → queued ≡ others → (urls_in_flight in_flight ++ queued) ++ left ≡ others ++ left
+left_over in_flight queued left others none are = ap (λ (fs : List InFlight). (urls_in_flight fs ++ queued) ++ left) none ∙ ap (λ (l : List Text). l ++ left) are
 
 -- URLs in flight or unread at the end have no line
 module _ {K : Type 0} (crawled : K → K → List Job → List JobResult → Type 0) (finished : K → List JobResult → Type 0) (crawl : CrawlGiven) (first : Stream) where
   pub ends_so : (mid now : OutputShown) (ended : Result (Unit {0}) CrawlFault) (last : K) (came : List JobResult) (result : Crawled) → HasFetched crawled crawl first mid ended → finished last came → AllTaken TakesShown mid now came
-      → result.tally ≡ now.tally → line_fault result.fault ≡ now.fault → (result.fault ≡ None → IsOk ended) → ((number : ℕ) → result.fault ≡ Some (faults.BadUrl number) → ended ≡ Err (faults.BadUrl number)) → Crawls crawled finished crawl first now.stream result
-  ends_so mid now ended last came result f finishes taken counted line done bad =
+      → result.tally ≡ now.tally → line_fault result.fault ≡ now.fault → (result.fault ≡ None → IsOk ended) → (result.fault ≡ Some (faults.Input Read) → ended ≡ Err (faults.Input Read))
+      → ((number : ℕ) → result.fault ≡ Some (faults.BadUrl number) → ended ≡ Err (faults.BadUrl number)) → Crawls crawled finished crawl first now.stream result
+  ends_so mid now ended last came result f finishes taken counted line done failed bad =
       let at = at_takes crawl f.jobs f.results first f.source came f.queue mid now f.at taken in
       let a = at.accounted in
       let urls = urls_written a.lines in
       let rest = urls_in_flight now.in_flight ++ f.queue.queued in
+      let leaves : line_fault result.fault ≡ None → LeavesUrls (fault_in ended) f.queue mid.in_flight = λ none. f.leaves (whole_all came mid now taken (sym line ∙ none)) in
       let joined : (urls ++ rest) ++ f.queue.left ≡ urls ++ (rest ++ f.queue.left) = append_assoc urls rest f.queue.left in
       record {
         from_file = at.from_file;
         none = at.none;
-        read = λ bytes known. first_in bytes crawl.bytes f.source f.queue.lines at.from_file _ known at.read (λ p. (
-            let none : now.fault ≡ None = sym line ∙ ap line_fault p.0 in
-            (f.whole (done p.0) (whole_all came mid now taken none)).no_line (λ q. p.1 (sym at.file ∙ q))));
+        read = λ bytes known. first_in bytes crawl.bytes f.source f.queue.lines at.from_file _ known at.read (λ p. (over_if_ok ended f.queue mid.in_flight (done p.0) (leaves (ap line_fault p.0))).no_line (λ q. p.1 (sym at.file ∙ q)));
         lines = a.lines;
         left = rest ++ f.queue.left;
         are = subst (AreWritten a.lines first now.stream) (sym line) a.are;
@@ -159,12 +190,23 @@ module _ {K : Type 0} (crawled : K → K → List Job → List JobResult → Typ
             (subst (IsPermutation (at.given ++ f.queue.left)) joined (IsPermutation-append_left f.queue.left at.given (urls ++ rest) a.each));
         order = λ p. sym at.are ∙ ap (λ l. l ++ f.queue.left) (a.order p) ∙ joined;
         whole = λ p. (
-            let none : now.fault ≡ None = sym line ∙ ap line_fault p in
-            let over = f.whole (done p) (whole_all came mid now taken none) in
-            ap (λ (fs : List InFlight). (urls_in_flight fs ++ f.queue.queued) ++ f.queue.left) (none_all came mid now taken over.none_in_flight) ∙ ap (λ l. l ++ f.queue.left) over.none_queued ∙ over.none_left);
-        bad_url = λ number p. not_skipped crawl.options.flags.skip_bad (subst (λ (r : Result (Unit {0}) CrawlFault). IfErr r (CanEnd crawl.options)) (bad number p) f.ended);
+            let over = over_if_ok ended f.queue mid.in_flight (done p) (leaves (ap line_fault p)) in
+            left_over now.in_flight f.queue.queued f.queue.left [] (none_all came mid now taken over.none_in_flight) over.none_queued ∙ over.none_left);
+        failed_read = λ p. (
+            let emptied : IsEmptied f.queue mid.in_flight = subst (λ (r : Result (Unit {0}) CrawlFault). LeavesUrls (fault_in r) f.queue mid.in_flight) (failed p) (leaves (ap line_fault p)) in
+            left_over now.in_flight f.queue.queued f.queue.left [] (none_all came mid now taken emptied.none_in_flight) emptied.none_queued ∙ emptied.none_left);
+        bad_url = λ number p. (
+            let is : IsAtBadUrl f.queue mid.in_flight = subst (λ (r : Result (Unit {0}) CrawlFault). LeavesUrls (fault_in r) f.queue mid.in_flight) (bad number p) (leaves (ap line_fault p)) in
+            record {
+              not_skipped = not_skipped crawl.options.flags.skip_bad (subst (λ (r : Result (Unit {0}) CrawlFault). IfErr r (CanEnd crawl.options)) (bad number p) f.ended);
+              url = is.url;
+              unread = f.queue.left;
+              left_is = left_over now.in_flight f.queue.queued f.queue.left (is.url ∷ []) (none_all came mid now taken is.none_in_flight) is.one_queued;
+              bad = is.bad;
+            });
         tally = counted ∙ a.tally ∙ ap (λ (flags : CrawlFlags). tally_of flags a.lines) at.flags;
         jobs = f.jobs;
+        distinct = at.numbered.distinct;
         results = came ++ f.results;
         of_results = a.of_results;
         ran = inr (record { before = f.results; ran = f.ran; crawler = last; rest = came; finishes = finishes; results_are = refl });
@@ -182,9 +224,11 @@ module _ {K : Type 0} (crawled : K → K → List Job → List JobResult → Typ
     each = IsPermutation-refl (crawl.words ++ []);
     order = λ p. refl;
     whole = λ p. absurd (some_not_none fault (sym is ∙ p));
+    failed_read = λ p. absurd (network_not_read fault (sym is ∙ p));
     bad_url = λ number p. absurd (network_not_bad fault number (sym is ∙ p));
     tally = counted;
     jobs = [];
+    distinct = tt;
     results = [];
     of_results = All-nil (IsOfResult crawl.options [] []);
     ran = inl (refl, refl);

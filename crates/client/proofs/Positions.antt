@@ -15,6 +15,7 @@ use Rattle.client.specs.FileLines.{nothing_read}
 use Rattle.client.specs.Lines.{Text}
 use Rattle.client.specs.Urls.{IsBadText}
 use Rattle.client.specs.Reading.{QueueShown, Reads, TakesOut}
+use Rattle.client.specs.Results.{AreNumbered, HaveNumbers}
 use Rattle.client.specs.Steps.{HasJob, IsEndOf, IsJobOf, IsOfResult}
 use Rattle.client.specs.Written.{AreWritten, BeginsAll, OutputShown, TakesShown, WritesBad, tally_of, url_in_flight, urls_in_flight, urls_written}
 use Rattle.client.specs.declared.crawl.in_flight.InFlight.{InFlight}
@@ -22,6 +23,7 @@ use Rattle.client.specs.declared.options.CrawlFlags.{CrawlFlags}
 use Rattle.client.specs.declared.options.CrawlOptions.{CrawlOptions}
 use Rattle.client.proofs.Accounts.{among_rest, first_of, have_jobs_on, lines_more, lines_on, takes_all, tally_more, urls_more}
 use Rattle.client.proofs.FileLines.{read_none, read_same, reads_after}
+use Rattle.client.proofs.Numbers.{more_numbered, none_numbered}
 use Rattle.client.proofs.Taken.{flags_all}
 
 -- four lists in a row
@@ -41,7 +43,7 @@ reads_more options jobs results given queued more first now a =
       have_jobs = a.have_jobs;
       each = subst (IsPermutation (given ++ more)) (regrouped urls flying queued more) (IsPermutation-append_left more given (urls ++ (flying ++ queued)) a.each);
       order = λ p. ap (λ l. l ++ more) (a.order p) ∙ regrouped urls flying queued more;
-      at_most_one = a.at_most_one;
+      at_most = a.at_most;
       tally = a.tally;
     }
 
@@ -59,6 +61,7 @@ module _ (crawl : CrawlGiven) (jobs : List Job) (results : List JobResult) (firs
         ∙ ap (λ l. l ++ reads.from_file) at.are ∙ append_assoc crawl.words at.from_file reads.from_file;
     accounted = subst (λ (queued : List Text). AreAccounted crawl.options jobs results (at.given ++ reads.more) queued first now) (sym reads.queued)
         (reads_more crawl.options jobs results at.given old.queued reads.more first now at.accounted);
+    numbered = subst (λ (n : ℕ). AreNumbered n jobs) (sym reads.number) at.numbered;
   }
 
 module _ (crawl : CrawlGiven) (jobs : List Job) (results : List JobResult) (first : Stream) (source : Option (List ℕ)) where
@@ -72,8 +75,8 @@ module _ (crawl : CrawlGiven) (jobs : List Job) (results : List JobResult) (firs
 
   -- the line of a bad URL is written
   pub at_bad : (url : Text) (old new : QueueShown) (before after : OutputShown) → crawl.options.flags.skip_bad ≡ true → ∥ IsBadText url ∥₁ → (crawl.options.parallel ≡ 1 → before.in_flight ≡ []) → IsAt crawl jobs results first source old before
-      → TakesOut (url ∷ []) old new → WritesBad url before after → IsAt crawl jobs results first source new after
-  at_bad url old new before after skips bad idle at takes w =
+      → TakesOut (url ∷ []) old new → new.number ≡ old.number → WritesBad url before after → IsAt crawl jobs results first source new after
+  at_bad url old new before after skips bad idle at takes same w =
       let a = at.accounted in
       let urls = urls_written a.lines in
       let flying = urls_in_flight before.in_flight in
@@ -107,10 +110,11 @@ module _ (crawl : CrawlGiven) (jobs : List Job) (results : List JobResult) (firs
               subst (λ (fs : List InFlight). at.given ≡ urls ++ (urls_in_flight fs ++ (url ∷ new.queued))) none (subst (λ (q : List Text). at.given ≡ urls ++ (flying ++ q)) front (a.order p)) in
               subst (λ (us : List Text). at.given ≡ us ++ (urls_in_flight after.in_flight ++ new.queued)) (sym more)
               (subst (λ (fs : List InFlight). at.given ≡ (urls ++ url ∷ []) ++ (urls_in_flight fs ++ new.queued)) (sym (w.in_flight ∙ none)) (was ∙ sym (append_assoc urls (url ∷ []) new.queued))));
-          at_most_one = λ p. subst (λ (fs : List InFlight). length fs ≤ 1) (sym w.in_flight) (a.at_most_one p);
+          at_most = subst (λ (fs : List InFlight). length fs ≤ crawl.options.parallel) (sym w.in_flight) a.at_most;
           tally = subst (λ (f : CrawlFlags). after.tally ≡ tally_of f (a.lines ++ w.line ∷ [])) (sym w.writes.flags)
               (tally_more before.flags a.lines w.line before.tally after.tally a.tally w.writes.counts);
         };
+        numbered = subst (λ (n : ℕ). AreNumbered n jobs) (sym same) at.numbered;
       }
 
   -- results are taken
@@ -126,6 +130,7 @@ module _ (crawl : CrawlGiven) (jobs : List Job) (results : List JobResult) (firs
     given = at.given;
     are = at.are;
     accounted = takes_all crawl.options jobs at.given queue.queued first results came old new at.accounted taken;
+    numbered = at.numbered;
   }
 
 -- transfers that begin have their jobs
@@ -147,9 +152,9 @@ module _ (options : CrawlOptions) (more jobs : List Job) where
 
 -- transfers begin
 pub at_begins : (crawl : CrawlGiven) (jobs more : List Job) (results : List JobResult) (first : Stream) (source : Option (List ℕ)) (begun : List InFlight) (old new : QueueShown) (before after : OutputShown)
-    → IsAt crawl jobs results first source old before → TakesOut (urls_in_flight begun) old new → AllZip (IsJobOf old.options) more begun → BeginsAll begun before after
+    → IsAt crawl jobs results first source old before → TakesOut (urls_in_flight begun) old new → AllZip (IsJobOf old.options) more begun → HaveNumbers old.number new.number more → BeginsAll begun before after
     → length begun ≤ old.options.parallel - length before.in_flight → IsAt crawl (more ++ jobs) results first source new after
-at_begins crawl jobs more results first source begun old new before after at takes zip begins room =
+at_begins crawl jobs more results first source begun old new before after at takes zip numbers begins room =
     let a = at.accounted in
     let urls = urls_written a.lines in
     let flying = urls_in_flight before.in_flight in
@@ -167,9 +172,7 @@ at_begins crawl jobs more results first source begun old new before after at tak
           (IsPermutation-trans at.given (urls ++ (flying ++ old.queued)) (urls ++ (flying ++ (started ++ new.queued))) a.each
           (IsPermutation-append_right urls (flying ++ old.queued) (flying ++ (started ++ new.queued)) (IsPermutation-append_right flying old.queued (started ++ new.queued) takes.each)));
       order = λ p. a.order p ∙ ap (λ l. urls ++ (flying ++ l)) (takes.order (ap (λ (o : CrawlOptions). o.parallel) at.options ∙ p)) ∙ ap (λ l. urls ++ l) (sym all);
-      at_most_one = λ p. (
-          let below : length begun ≤ 1 - length before.in_flight = subst (λ n. length begun ≤ n - length before.in_flight) p free in
-          subst (λ n. n ≤ 1) (sym (length-append before.in_flight begun)) (omega (arith, below, a.at_most_one p)));
+      at_most = omega (arith, length-append before.in_flight begun, free, a.at_most);
       tally = begins.tally ∙ a.tally ∙ ap (λ (f : CrawlFlags). tally_of f a.lines) (sym begins.flags);
     } in
     record {
@@ -182,6 +185,7 @@ at_begins crawl jobs more results first source begun old new before after at tak
       given = at.given;
       are = subst (λ (left : List Text). at.given ++ left ≡ crawl.words ++ at.from_file) (sym takes.left) at.are;
       accounted = subst (λ (fs : List InFlight). AreAccounted crawl.options (more ++ jobs) results at.given new.queued first (record after { in_flight = fs })) (sym begins.in_flight) accounted;
+      numbered = more_numbered old.number new.number more jobs at.numbered numbers;
     }
 
 -- nothing was read yet
@@ -202,7 +206,8 @@ at_first crawl now flags none whole counted = record {
     have_jobs = subst (All (HasJob crawl.options [])) (sym none) (All-nil (HasJob crawl.options []));
     each = subst (λ (fs : List InFlight). IsPermutation [] (urls_in_flight fs ++ [])) (sym none) (IsPermutation-refl []);
     order = λ p. sym (ap (λ (fs : List InFlight). urls_in_flight fs ++ []) none);
-    at_most_one = λ p. subst (λ (fs : List InFlight). length fs ≤ 1) (sym none) (omega arith);
+    at_most = subst (λ (fs : List InFlight). length fs ≤ crawl.options.parallel) (sym none) (omega arith);
     tally = counted;
   };
+  numbered = none_numbered 0;
 }

@@ -1,29 +1,36 @@
 -- URLs that enter and leave a queue.
-use Rattle.std.proofs.Common.{◌≡◌, ◌≤◌, ◌<◌, ℕ, List, [], ◌∷◌, ◌++◌, length, get_or, map, refl, ap, sym, ◌∙◌, subst, arith, append_assoc, append-nil, string_bytes, inl, inr}
-use Rattle.std.specs.Prelude.{◌≢◌, Bool, true, Option, String, reverse, remove, Result, Ok, Err, OnOk}
+use Rattle.std.proofs.Common.{◌≡◌, ◌≤◌, ◌<◌, ◌+◌, ℕ, List, [], ◌∷◌, ◌++◌, length, get_or, map, refl, ap, sym, ◌∙◌, subst, arith, append_assoc, append-nil, string_bytes, inl, inr}
+use Rattle.std.specs.Prelude.{◌≢◌, Bool, true, Option, Some, String, reverse, remove, Result, Ok, Err, OnOk}
 use Rattle.std.specs.Global.{Global}
 use Rattle.std.specs.List.{AllZip}
 use Rattle.std.specs.List.Sorted.{IsPermutation}
 use Rattle.std.proofs.lemmas.List.{length-append, map-append, reverse-append}
 use Rattle.std.proofs.lemmas.List.Sorted.{IsPermutation-map, IsPermutation-middle, IsPermutation-pop_more, IsPermutation-refl, IsPermutation-remove}
+use Rattle.conn_log.specs.declared.entry.Want.{Want}
 use Rattle.exchange.specs.declared.job.Job.{Job}
 use Rattle.site_table.specs.Hosts.{Hosts}
-use Rattle.client.specs.Hosts.{AreAwaited, KeepsAwaited, is_awaited}
+use Rattle.script_text.specs.declared.fault.FaultKind.TheVariants.{Memory, Read, Write, ScriptTooLong, LineTooLong, Unknown, Form, Place, BadLimits, BadSite, TooManySites}
+use Rattle.client.specs.Crawling.{IsAtBadUrl, LeavesUrls}
+use Rattle.client.specs.Hosts.{AreInUse, KeepsInUse, is_in_use}
 use Rattle.client.specs.Lines.{Text}
 use Rattle.client.specs.FileLines.{LinesShown, TakesLine}
 use Rattle.client.specs.Reading.{AddsUrl, QueueShown, Reads, TakesOut, url_queued, urls_queued}
+use Rattle.client.specs.Results.{HaveNumbers}
 use Rattle.client.specs.Urls.{IsBadText}
 use Rattle.client.specs.declared.crawl.route.Route.TheVariants.{Bad}
 use Rattle.client.specs.Windows.{Begins, BeginsOrWaits, Waits}
 use Rattle.client.specs.Steps.{IsJobOf}
 use Rattle.client.specs.Written.{url_in_flight, urls_in_flight}
+use Rattle.client.specs.declared.crawl.fault.CrawlFault.{CrawlFault}
+use Rattle.client.specs.declared.crawl.fault.CrawlFault.TheVariants as faults
 use Rattle.client.specs.declared.crawl.in_flight.InFlight.{InFlight}
 use Rattle.client.specs.declared.crawl.queued.Queued.{Queued}
 use Rattle.client.specs.declared.crawl.window.Window.{Window}
 use Rattle.client.specs.declared.options.CrawlOptions.{CrawlOptions}
 use Rattle.client.specs.declared.options.UrlFile.TheVariants as files
 use Rattle.client.proofs.FileLines.{read_same, reads_after, reads_line, reads_nothing}
-use Rattle.client.proofs.Places.{awaited_more, awaited_on}
+use Rattle.client.proofs.Numbers.{one_numbered}
+use Rattle.client.proofs.Places.{in_use_more, in_use_on}
 
 -- nothing more is read
 pub reads_none : (old new : QueueShown) (source : Option (List ℕ)) → new ≡ old → Reads old new source source
@@ -36,6 +43,7 @@ reads_none old new source same = record {
   lines = λ ends. read_same [] old.lines old.lines new.lines source source (ap (λ (q : QueueShown). q.lines) same) (reads_nothing old.lines source ends);
   options = ap (λ (q : QueueShown). q.options) same;
   file = ap (λ (q : QueueShown). q.file) same;
+  number = ap (λ (q : QueueShown). q.number) same;
 }
 
 -- first some URLs, then others
@@ -52,6 +60,7 @@ reads_then first mid last before between after one other = record {
       reads_after first.lines mid.lines last.lines before between after one.from_file other.from_file read (other.lines read.ended));
   options = other.options ∙ one.options;
   file = other.file ∙ one.file;
+  number = other.number ∙ one.number;
 }
 
 -- a consequence of success
@@ -64,9 +73,9 @@ pub first_left : (old new : List (String Global)) (url : String Global) → old 
 first_left old new url is = ap (λ (l : List (String Global)). map string_bytes (reverse l)) is ∙ ap (λ (l : List (String Global)). map string_bytes l) (reverse-append new (url ∷ []))
 
 -- a URL among the words is read
-pub reads_word : (old mid new : QueueShown) (url : Text) (source : Option (List ℕ)) → mid.queued ≡ old.queued → old.left ≡ url ∷ mid.left → mid.lines ≡ old.lines → mid.options ≡ old.options → mid.file ≡ old.file → AddsUrl url mid new
+pub reads_word : (old mid new : QueueShown) (url : Text) (source : Option (List ℕ)) → mid.queued ≡ old.queued → old.left ≡ url ∷ mid.left → mid.lines ≡ old.lines → mid.options ≡ old.options → mid.file ≡ old.file → mid.number ≡ old.number → AddsUrl url mid new
     → Reads old new source source
-reads_word old mid new url source queued left lines options file adds = record {
+reads_word old mid new url source queued left lines options file number adds = record {
   more = url ∷ [];
   from_file = [];
   queued = adds.queued ∙ ap (λ (l : List Text). l ++ url ∷ []) queued;
@@ -75,6 +84,7 @@ reads_word old mid new url source queued left lines options file adds = record {
   lines = λ ends. read_same [] old.lines old.lines new.lines source source (adds.lines ∙ lines) (reads_nothing old.lines source ends);
   options = adds.options ∙ options;
   file = adds.file ∙ file;
+  number = adds.number ∙ number;
 }
 
 -- no URL of the words is left, before and after
@@ -93,6 +103,7 @@ reads_url old mid new url source none_left has same takes adds = record {
   lines = λ ends. read_same (url ∷ []) old.lines mid.lines new.lines source source adds.lines (reads_line (url ∷ []) old.lines mid.lines source takes ends);
   options = adds.options ∙ ap (λ (q : QueueShown). q.options) same;
   file = adds.file ∙ ap (λ (q : QueueShown). q.file) same;
+  number = adds.number ∙ ap (λ (q : QueueShown). q.number) same;
 }
 
 -- no URL is left
@@ -107,6 +118,29 @@ none_queued (one ∷ queued) none = absurd (omega (arith, none))
 -- a URL without a target is bad
 pub bad_text : (one : Queued) → one.route ≡ Bad → ∥ IsBadText (string_bytes one.url) ∥₁
 bad_text one is = rw is at one.leads
+
+-- after a fault other than a bad URL, the queue is empty
+pub leaves_none : (fault : CrawlFault) (queue : QueueShown) → ((line : ℕ) → fault ≢ faults.BadUrl line) → queue.left ≡ [] → queue.queued ≡ [] → LeavesUrls (Some fault) queue []
+leaves_none (faults.Input Memory) queue other left queued = tt
+leaves_none (faults.Input Read) queue other left queued = record { none_left = left; none_queued = queued; none_in_flight = refl }
+leaves_none (faults.Input Write) queue other left queued = tt
+leaves_none (faults.Input ScriptTooLong) queue other left queued = tt
+leaves_none (faults.Input LineTooLong) queue other left queued = tt
+leaves_none (faults.Input Unknown) queue other left queued = tt
+leaves_none (faults.Input Form) queue other left queued = tt
+leaves_none (faults.Input Place) queue other left queued = tt
+leaves_none (faults.Input BadLimits) queue other left queued = tt
+leaves_none (faults.Input BadSite) queue other left queued = tt
+leaves_none (faults.Input TooManySites) queue other left queued = tt
+leaves_none (faults.Output kind) queue other left queued = tt
+leaves_none (faults.Network fault) queue other left queued = tt
+leaves_none (faults.BadUrl line) queue other left queued = absurd (other line refl)
+
+-- at a bad URL, the queue holds it alone
+pub leaves_bad : (queue : QueueShown) (all : List Queued) → queue.queued ≡ urls_queued all → length all ≡ 1 → ((one : Queued) → (get_or all 0 one).route ≡ Bad) → IsAtBadUrl queue []
+leaves_bad queue [] are one bad = absurd (omega (arith, one))
+leaves_bad queue (x ∷ []) are one bad = record { url = url_queued x; one_queued = are; bad = bad_text x (bad x); none_in_flight = refl }
+leaves_bad queue (x ∷ y ∷ all) are one bad = absurd (omega (arith, one))
 
 -- one URL is taken out of a queue, in front if it was there
 pub takes_at : (old new : List Queued) (place : ℕ) (one : Queued) → place < length old → one ≡ get_or old place one → new ≡ remove old place → IsPermutation (urls_queued old) (url_queued one ∷ urls_queued new)
@@ -132,15 +166,16 @@ zip_push R (a ∷ xs) [] x y are is = absurd are
 zip_push R (a ∷ xs) (b ∷ ys) x y are is = (are.0, zip_push R xs ys x y are.1 is)
 
 -- a window in the making: each URL of the queue has begun with its job, waits, or is still queued
-pub record IsWindow (options : CrawlOptions) (was : List Queued) (window : Window) (queued : List Queued) (free : ℕ) : Type 0 where
+pub record IsWindow (options : CrawlOptions) (was : List Queued) (free first : ℕ) (window : Window) (queued : List Queued) (next : ℕ) : Type 0 where
   pub each : IsPermutation (urls_queued was) (urls_in_flight window.transfers.items ++ (urls_queued window.waiting.items ++ urls_queued queued))
   pub order : options.parallel ≡ 1 → urls_queued was ≡ urls_in_flight window.transfers.items ++ (urls_queued window.waiting.items ++ urls_queued queued)
   pub jobs : AllZip (IsJobOf options) window.jobs.items window.transfers.items
+  pub numbered : HaveNumbers first next window.jobs.items
   pub few : length window.transfers.items ≤ free
 
-module _ (options : CrawlOptions) (was : List Queued) (free : ℕ) where
+module _ (options : CrawlOptions) (was : List Queued) (free first : ℕ) where
   -- none begins yet
-  pub window_none : (window : Window) (queued : List Queued) → queued ≡ was → window.jobs.items ≡ [] → window.transfers.items ≡ [] → window.waiting.items ≡ [] → IsWindow options was window queued free
+  pub window_none : (window : Window) (queued : List Queued) → queued ≡ was → window.jobs.items ≡ [] → window.transfers.items ≡ [] → window.waiting.items ≡ [] → IsWindow options was free first window queued first
   window_none window queued same jobs urls waiting = record {
     each = subst (λ (us : List InFlight). IsPermutation (urls_queued was) (urls_in_flight us ++ (urls_queued window.waiting.items ++ urls_queued queued))) (sym urls)
         (subst (λ (ws : List Queued). IsPermutation (urls_queued was) (urls_queued ws ++ urls_queued queued)) (sym waiting)
@@ -148,13 +183,14 @@ module _ (options : CrawlOptions) (was : List Queued) (free : ℕ) where
     order = λ p. ap urls_queued (sym same) ∙ ap (λ (ws : List Queued). urls_queued ws ++ urls_queued queued) (sym waiting)
         ∙ ap (λ (us : List InFlight). urls_in_flight us ++ (urls_queued window.waiting.items ++ urls_queued queued)) (sym urls);
     jobs = subst (λ (js : List Job). AllZip (IsJobOf options) js window.transfers.items) (sym jobs) (subst (λ (us : List InFlight). AllZip (IsJobOf options) [] us) (sym urls) tt);
+    numbered = subst (HaveNumbers first first) (sym jobs) (record { numbers = refl; after = omega arith });
     few = subst (λ (us : List InFlight). length us ≤ free) (sym urls) (omega arith);
   }
 
   -- the next URL begins
-  window_begins : (old new : Window) (one : Queued) (rest : List Queued) → IsWindow options was old (one ∷ rest) free → (options.parallel ≡ 1 → old.waiting.items ≡ []) → length old.transfers.items < free → Begins options (url_queued one) old new
-      → IsWindow options was new rest free
-  window_begins old new one rest w first room b =
+  window_begins : (old new : Window) (one : Queued) (rest : List Queued) (number next : ℕ) → IsWindow options was free first old (one ∷ rest) number → (options.parallel ≡ 1 → old.waiting.items ≡ []) → length old.transfers.items < free → Begins options (url_queued one) number next old new
+      → IsWindow options was free first new rest next
+  window_begins old new one rest number next w in_turn room b =
       let begun = urls_in_flight old.transfers.items in
       let waiting = urls_queued old.waiting.items in
       let left = urls_queued rest in
@@ -166,18 +202,19 @@ module _ (options : CrawlOptions) (was : List Queued) (free : ℕ) where
         each = subst (λ (us : List Text). IsPermutation (urls_queued was) (us ++ (urls_queued new.waiting.items ++ left))) (sym urls)
             (subst (λ (ws : List Queued). IsPermutation (urls_queued was) ((begun ++ url ∷ []) ++ (urls_queued ws ++ left))) (sym b.waiting) each);
         order = λ p. (
-            let none = first p in
+            let none = in_turn p in
             let now : urls_queued was ≡ begun ++ (url ∷ left) = subst (λ (ws : List Queued). urls_queued was ≡ begun ++ (urls_queued ws ++ url ∷ left)) none (w.order p) in
             subst (λ (us : List Text). urls_queued was ≡ us ++ (urls_queued new.waiting.items ++ left)) (sym urls)
             (subst (λ (ws : List Queued). urls_queued was ≡ (begun ++ url ∷ []) ++ (urls_queued ws ++ left)) (sym (b.waiting ∙ none)) (now ∙ sym (append_assoc begun (url ∷ []) left))));
         jobs = subst (λ (js : List Job). AllZip (IsJobOf options) js new.transfers.items) (sym b.jobs)
             (subst (λ (us : List InFlight). AllZip (IsJobOf options) (old.jobs.items ++ b.job ∷ []) us) (sym b.transfers) (zip_push (IsJobOf options) old.jobs.items old.transfers.items b.job b.one w.jobs b.its));
+        numbered = subst (HaveNumbers first next) (sym b.jobs) (one_numbered first number next old.jobs.items b.job w.numbered (ap (λ (want : Want). want.transfer) b.its.want ∙ b.its_number) b.next_is);
         few = subst (λ (us : List InFlight). length us ≤ free) (sym b.transfers) (subst (λ n. n ≤ free) (sym (length-append old.transfers.items (b.one ∷ []))) (omega (arith, room)));
       }
 
   -- the next URL waits
-  window_waits : (old new : Window) (one : Queued) (rest : List Queued) → IsWindow options was old (one ∷ rest) free → Waits (url_queued one) old new → IsWindow options was new rest free
-  window_waits old new one rest w b =
+  window_waits : (old new : Window) (one : Queued) (rest : List Queued) (number next : ℕ) → IsWindow options was free first old (one ∷ rest) number → Waits (url_queued one) number next old new → IsWindow options was free first new rest next
+  window_waits old new one rest number next w b =
       let begun = urls_in_flight old.transfers.items in
       let waiting = urls_queued old.waiting.items in
       let left = urls_queued rest in
@@ -190,19 +227,20 @@ module _ (options : CrawlOptions) (was : List Queued) (free : ℕ) where
             (subst (λ (l : List Text). IsPermutation (urls_queued was) (begun ++ l)) moved w.each);
         order = λ p. w.order p ∙ ap (λ (l : List Text). begun ++ l) moved ∙ ap (λ (us : List InFlight). urls_in_flight us ++ (urls_queued new.waiting.items ++ left)) (sym b.transfers);
         jobs = subst (λ (js : List Job). AllZip (IsJobOf options) js new.transfers.items) (sym b.jobs) (subst (λ (us : List InFlight). AllZip (IsJobOf options) old.jobs.items us) (sym b.transfers) w.jobs);
+        numbered = subst (λ (n : ℕ). HaveNumbers first n new.jobs.items) (sym b.next_is) (subst (HaveNumbers first number) (sym b.jobs) w.numbered);
         few = subst (λ (us : List InFlight). length us ≤ free) (sym b.transfers) w.few;
       }
 
-  pub window_on : (old new : Window) (one : Queued) (queued rest : List Queued) → queued ≡ one ∷ rest → IsWindow options was old queued free → (options.parallel ≡ 1 → old.waiting.items ≡ []) → length old.transfers.items < free
-      → BeginsOrWaits options (url_queued one) old new → IsWindow options was new rest free
-  window_on old new one queued rest is w first room (inl b) = window_begins old new one rest (subst (λ (qs : List Queued). IsWindow options was old qs free) is w) first room b
-  window_on old new one queued rest is w first room (inr b) = window_waits old new one rest (subst (λ (qs : List Queued). IsWindow options was old qs free) is w) b
+  pub window_on : (old new : Window) (one : Queued) (queued rest : List Queued) (number next : ℕ) → queued ≡ one ∷ rest → IsWindow options was free first old queued number → (options.parallel ≡ 1 → old.waiting.items ≡ []) → length old.transfers.items < free
+      → BeginsOrWaits options (url_queued one) number next old new → IsWindow options was free first new rest next
+  window_on old new one queued rest number next is w in_turn room (inl b) = window_begins old new one rest number next (subst (λ (qs : List Queued). IsWindow options was free first old qs number) is w) in_turn room b
+  window_on old new one queued rest number next is w in_turn room (inr b) = window_waits old new one rest number next (subst (λ (qs : List Queued). IsWindow options was free first old qs number) is w) b
 
 -- the URLs of the window leave the queue
-pub window_takes : (options : CrawlOptions) (was queued : List Queued) (window : Window) (free : ℕ) (old new : QueueShown) → IsWindow options was window queued free
+pub window_takes : (options : CrawlOptions) (was queued : List Queued) (window : Window) (free first next : ℕ) (old new : QueueShown) → IsWindow options was free first window queued next
     → old.queued ≡ urls_queued was → new.queued ≡ urls_queued (window.waiting.items ++ queued) → old.options ≡ options → new.left ≡ old.left → new.lines ≡ old.lines → new.options ≡ old.options → new.file ≡ old.file
     → TakesOut (urls_in_flight window.transfers.items) old new
-window_takes options was queued window free old new w before after is left lines same file =
+window_takes options was queued window free first next old new w before after is left lines same file =
     let begun = urls_in_flight window.transfers.items in
     let rest : new.queued ≡ urls_queued window.waiting.items ++ urls_queued queued = after ∙ map-append url_queued window.waiting.items queued in
     record {
@@ -216,23 +254,23 @@ window_takes options was queued window free old new w before after is left lines
 
 module _ {A E : Type 0} where
   -- a URL waits
-  pub waiting_on : (r : Result A E) (options : CrawlOptions) (url : Text) (one : Queued) (old new : Window) → url_queued one ≡ url → OnOk r (new.waiting.items ≡ old.waiting.items ++ one ∷ [])
-      → new.jobs.items ≡ old.jobs.items → new.transfers.items ≡ old.transfers.items → OnOk r (BeginsOrWaits options url old new)
-  waiting_on (Ok done) options url one old new its waiting jobs transfers = inr (record { one = one; its_url = its; jobs = jobs; transfers = transfers; waiting = waiting })
-  waiting_on (Err error) options url one old new its waiting jobs transfers = tt
+  pub waiting_on : (r : Result A E) (options : CrawlOptions) (url : Text) (one : Queued) (number next : ℕ) (old new : Window) → url_queued one ≡ url → next ≡ number → OnOk r (new.waiting.items ≡ old.waiting.items ++ one ∷ [])
+      → new.jobs.items ≡ old.jobs.items → new.transfers.items ≡ old.transfers.items → OnOk r (BeginsOrWaits options url number next old new)
+  waiting_on (Ok done) options url one number next old new its same waiting jobs transfers = inr (record { one = one; its_url = its; next_is = same; jobs = jobs; transfers = transfers; waiting = waiting })
+  waiting_on (Err error) options url one number next old new its same waiting jobs transfers = tt
 
   -- an added transfer begins
-  pub begun_on : (r : Result A E) (options : CrawlOptions) (url : Text) (job : Job) (one : InFlight) (old new : Window) → string_bytes one.url ≡ url → IsJobOf options job one → OnOk r (new.jobs.items ≡ old.jobs.items ++ job ∷ [])
-      → OnOk r (new.transfers.items ≡ old.transfers.items ++ one ∷ []) → new.waiting.items ≡ old.waiting.items → OnOk r (Begins options url old new)
-  begun_on (Ok done) options url job one old new its is jobs transfers waiting = record { job = job; one = one; its_url = its; its = is; jobs = jobs; transfers = transfers; waiting = waiting }
-  begun_on (Err error) options url job one old new its is jobs transfers waiting = tt
+  pub begun_on : (r : Result A E) (options : CrawlOptions) (url : Text) (job : Job) (one : InFlight) (next : ℕ) (old new : Window) → string_bytes one.url ≡ url → IsJobOf options job one → next ≡ one.number + 1 → OnOk r (new.jobs.items ≡ old.jobs.items ++ job ∷ [])
+      → OnOk r (new.transfers.items ≡ old.transfers.items ++ one ∷ []) → new.waiting.items ≡ old.waiting.items → OnOk r (Begins options url one.number next old new)
+  begun_on (Ok done) options url job one next old new its is more jobs transfers waiting = record { job = job; one = one; its_url = its; its = is; its_number = refl; next_is = more; jobs = jobs; transfers = transfers; waiting = waiting }
+  begun_on (Err error) options url job one next old new its is more jobs transfers waiting = tt
 
-  -- its place is awaited
-  pub begun_awaits : (r : Result A E) (awaited : List Bool) (place : ℕ) (one : InFlight) (old new : List InFlight) → one.place ≡ place → OnOk r (new ≡ old ++ one ∷ []) → OnOk r (is_awaited awaited place ≡ true → AreAwaited awaited old → AreAwaited awaited new)
-  begun_awaits (Ok done) awaited place one old new at urls = λ is all. subst (AreAwaited awaited) (sym urls) (awaited_more awaited old one all (ap (is_awaited awaited) at ∙ is))
-  begun_awaits (Err error) awaited place one old new at urls = tt
+  -- its place is in use
+  pub begun_in_use : (r : Result A E) (in_use : List Bool) (place : ℕ) (one : InFlight) (old new : List InFlight) → one.place ≡ place → OnOk r (new ≡ old ++ one ∷ []) → OnOk r (is_in_use in_use place ≡ true → AreInUse in_use old → AreInUse in_use new)
+  begun_in_use (Ok done) in_use place one old new at urls = λ is all. subst (AreInUse in_use) (sym urls) (in_use_more in_use old one all (ap (is_in_use in_use) at ∙ is))
+  begun_in_use (Err error) in_use place one old new at urls = tt
 
-  -- the places of the others stay awaited
-  pub waiting_awaits : (r : Result A E) (first last : Hosts) (was now : List Bool) (old new : List InFlight) → KeepsAwaited first last was now → new ≡ old → OnOk r (AreAwaited was old → AreAwaited now new)
-  waiting_awaits (Ok done) first last was now old new keeps same = λ all. subst (AreAwaited now) (sym same) (awaited_on first last was now old keeps all)
-  waiting_awaits (Err error) first last was now old new keeps same = tt
+  -- the places of the others stay in use
+  pub waiting_in_use : (r : Result A E) (first last : Hosts) (was now : List Bool) (old new : List InFlight) → KeepsInUse first last was now → new ≡ old → OnOk r (AreInUse was old → AreInUse now new)
+  waiting_in_use (Ok done) first last was now old new keeps same = λ all. subst (AreInUse now) (sym same) (in_use_on first last was now old keeps all)
+  waiting_in_use (Err error) first last was now old new keeps same = tt

@@ -12,11 +12,11 @@ module _ {X : Type 0} (of : OutputShown → X) (keeps : (result : JobResult) (ol
   kept_all (result ∷ earlier) old new taken = keeps result taken.0 new taken.2 ∙ kept_all earlier old taken.0 taken.1
 
 keeps_flags : (result : JobResult) (old new : OutputShown) → TakesResult result old new → new.flags ≡ old.flags
-keeps_flags result old new (inl same) = ap (λ (o : OutputShown). o.flags) same
+keeps_flags result old new (inl ignores) = ap (λ (o : OutputShown). o.flags) ignores.same
 keeps_flags result old new (inr w) = w.writes.flags
 
 keeps_name : (result : JobResult) (old new : OutputShown) → TakesResult result old new → new.name ≡ old.name
-keeps_name result old new (inl same) = ap (λ (o : OutputShown). o.name) same
+keeps_name result old new (inl ignores) = ap (λ (o : OutputShown). o.name) ignores.same
 keeps_name result old new (inr w) = w.writes.name
 
 pub flags_all : (came : List JobResult) (old new : OutputShown) → AllTaken TakesShown old new came → new.flags ≡ old.flags
@@ -27,7 +27,7 @@ name_all came old new taken = kept_all (λ (o : OutputShown). o.name) keeps_name
 
 -- nothing failed, if nothing has failed since
 whole_one : (result : JobResult) (old new : OutputShown) → TakesResult result old new → new.fault ≡ None → old.fault ≡ None
-whole_one result old new (inl same) whole = sym (ap (λ (o : OutputShown). o.fault) same) ∙ whole
+whole_one result old new (inl ignores) whole = sym (ap (λ (o : OutputShown). o.fault) ignores.same) ∙ whole
 whole_one result old new (inr w) whole = w.writes.whole
 
 pub whole_all : (came : List JobResult) (old new : OutputShown) → AllTaken TakesShown old new came → new.fault ≡ None → old.fault ≡ None
@@ -36,7 +36,7 @@ whole_all (result ∷ earlier) old new taken whole = whole_all earlier old taken
 
 -- nothing is in flight, if nothing was
 none_one : (result : JobResult) (old new : OutputShown) → TakesResult result old new → old.in_flight ≡ [] → new.in_flight ≡ []
-none_one result old new (inl same) none = ap (λ (o : OutputShown). o.in_flight) same ∙ none
+none_one result old new (inl ignores) none = ap (λ (o : OutputShown). o.in_flight) ignores.same ∙ none
 none_one result old new (inr w) none = absurd (omega (arith, w.below, ap (λ (fs : List InFlight). length fs) none))
 
 pub none_all : (came : List JobResult) (old new : OutputShown) → AllTaken TakesShown old new came → old.in_flight ≡ [] → new.in_flight ≡ []

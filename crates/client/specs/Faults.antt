@@ -1,6 +1,7 @@
 -- Faults of crawls.
 use Rattle.std.specs.Prelude.{◌≡◌, Bool, true, false, not, Option, Some, None}
 use Rattle.script_text.specs.declared.fault.FaultKind.{FaultKind}
+use Rattle.script_text.specs.declared.fault.FaultKind.TheVariants.{Read}
 use Rattle.client.specs.declared.crawl.fault.CrawlFault.{CrawlFault}
 use Rattle.client.specs.declared.crawl.fault.CrawlFault.TheVariants as faults
 use Rattle.client.specs.declared.options.CrawlOptions.{CrawlOptions}
@@ -10,8 +11,9 @@ abbrev pub line_fault : Option CrawlFault → Option FaultKind
 line_fault (Some (faults.Output kind)) = Some kind
 line_fault _ = None
 
--- a fault that may end a step of a crawl: of its input or its network
+-- a fault that may end a step of a crawl: memory for its input, or its network
 abbrev pub IsStepFault : CrawlFault → Type 0
+IsStepFault (faults.Input Read) = ⊥
 IsStepFault (faults.Output kind) = ⊥
 IsStepFault (faults.BadUrl line) = ⊥
 IsStepFault fault = Unit {0}

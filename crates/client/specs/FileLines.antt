@@ -1,9 +1,10 @@
 -- The URLs in a file, one on each line.
-use Rattle.std.specs.Prelude.{◌≡◌, ◌==◌, ◌++◌, ◌∷◌, [], ℕ, List, Bool, true, false, if◌then◌else◌, drop, take, flat_map, option_map, string_bytes, Option, Some, None}
+use Rattle.std.specs.Prelude.{◌≡◌, ◌⊎◌, ◌+◌, ◌<◌, ◌==◌, ◌++◌, ◌∷◌, [], ℕ, List, Bool, true, false, if◌then◌else◌, drop, take, flat_map, option_map, string_bytes, length, IsUtf8, Option, Some, None}
 use Rattle.std.specs.Io.KnownBytes.{IsAtEnd}
 use Rattle.std.specs.List.{All, slice_split}
 use Rattle.std.specs.Str.Lines.{strip_carriage_return}
 use Rattle.std.specs.Str.Lossy.{utf8_lossy}
+use Rattle.script_run.specs.Streams.{Stream, SameFailures, OneMoreFailed}
 use Rattle.client.specs.Lines.{Text}
 use Rattle.client.specs.declared.crawl.lines.Line.{Line}
 use Rattle.client.specs.declared.crawl.lines.Line.TheVariants.{Url, Bad, Skipped, Unread, Over}
@@ -76,6 +77,33 @@ urls_returned Over = None
 abbrev pub IfBad : (Text → Type 0) → Line → Type 0
 IfBad P (Bad url number) = P (string_bytes url)
 IfBad P line = Unit {0}
+
+-- a line without its CR is returned as a URL, which is the whole line; or it is bad, since it is longer than 2,048 bytes
+-- or not UTF-8; or it is skipped
+abbrev pub IsClassOf : List ℕ → Line → Type 0
+IsClassOf bytes (Url url number) = string_bytes url ≡ bytes
+IsClassOf bytes (Bad url number) = (2048 < length bytes) ⊎ (IsUtf8 bytes → ⊥)
+IsClassOf bytes Skipped = is_skipped bytes ≡ true
+IsClassOf bytes _ = ⊥
+
+-- a line that is returned or skipped has the next number; nothing else has one
+abbrev pub NumbersLine : ℕ → ℕ → Line → Type 0
+NumbersLine old new (Url url number) = (number ≡ new) × (new ≡ old + 1)
+NumbersLine old new (Bad url number) = (number ≡ new) × (new ≡ old + 1)
+NumbersLine old new Skipped = new ≡ old + 1
+NumbersLine old new Unread = new ≡ old
+NumbersLine old new Over = new ≡ old
+
+-- the number of a line that is returned
+abbrev pub HasNumber : ℕ → Line → Type 0
+HasNumber n (Url url number) = number ≡ n
+HasNumber n (Bad url number) = number ≡ n
+HasNumber n line = Unit {0}
+
+-- no read of a file failed, if it was read; otherwise one more did
+abbrev pub CountsRead : Bool → Stream → Stream → Type 0
+CountsRead true before after = SameFailures before after
+CountsRead false before after = OneMoreFailed before after
 
 -- this line is next
 abbrev pub IsNextLine : Line → LinesShown → LinesShown → Type 0

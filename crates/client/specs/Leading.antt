@@ -7,5 +7,5 @@ use Rattle.client.specs.declared.crawl.route.Route.TheVariants.{To, Bad}
 
 -- a URL leads to this target, or it is bad
 abbrev pub LeadsAs : List ℕ → Route → Type 0
-LeadsAs url (To target) = GivesTarget url target
+LeadsAs url (To target host_key) = GivesTarget url target
 LeadsAs url Bad = IsBadText url

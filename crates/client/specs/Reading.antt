@@ -1,9 +1,13 @@
 -- The queue of a crawl: URLs that are read into it, and taken out of it.
-use Rattle.std.specs.Prelude.{◌≡◌, ◌++◌, ◌∷◌, [], ℕ, List, map, reverse, string_bytes, Option, Bool, true}
+use Rattle.std.specs.Prelude.{◌≡◌, ◌⊎◌, ◌++◌, ◌∷◌, [], ℕ, List, map, reverse, string_bytes, Option, Some, Bool, true}
 use Rattle.std.specs.List.Sorted.{IsPermutation}
+use Rattle.script_run.specs.Streams.{Stream, OneMoreFailed}
+use Rattle.script_text.specs.declared.fault.FaultKind.TheVariants.{Read}
 use Rattle.client.specs.FileLines.{KnowsEnd, LinesShown, ReadsFile, lines_shown}
 use Rattle.client.specs.Lines.{Text}
 use Rattle.client.specs.Urls.{IsBadText}
+use Rattle.client.specs.declared.crawl.fault.CrawlFault.{CrawlFault}
+use Rattle.client.specs.declared.crawl.fault.CrawlFault.TheVariants as faults
 use Rattle.client.specs.declared.crawl.queue.Queue.{Queue}
 use Rattle.client.specs.declared.crawl.queued.Queued.{Queued}
 use Rattle.client.specs.declared.options.CrawlOptions.{CrawlOptions}
@@ -11,13 +15,14 @@ use Rattle.client.specs.declared.options.UrlFile.{UrlFile}
 use Rattle.client.specs.declared.options.UrlFile.TheVariants as files
 
 -- a queue of URLs: the options, the kind of file, the unread URLs among the words, the unread lines of the file, and the
--- URLs that were read, in order
+-- URLs that were read, in order; and the number of the next transfer
 pub record QueueShown : Type 0 where
   pub options : CrawlOptions
   pub file : UrlFile
   pub left : List Text
   pub lines : LinesShown
   pub queued : List Text
+  pub number : ℕ
 
 abbrev pub url_queued : Queued → Text
 url_queued one = string_bytes one.url
@@ -32,6 +37,7 @@ queue_shown queue = record {
   left = map string_bytes (reverse queue.urls.items);
   lines = lines_shown queue.lines;
   queued = urls_queued queue.queued.items;
+  number = queue.number;
 }
 
 -- a URL is added to the queue
@@ -41,6 +47,15 @@ pub record AddsUrl (url : Text) (old new : QueueShown) : Type 0 where
   pub lines : new.lines ≡ old.lines
   pub options : new.options ≡ old.options
   pub file : new.file ≡ old.file
+  pub number : new.number ≡ old.number
+
+-- a crawl is not to end, or it ends at the line of this URL, which is bad
+abbrev pub StopsIfBad : Text → ℕ → Option CrawlFault → Option CrawlFault → Type 0
+StopsIfBad url line old new = (new ≡ old) ⊎ ((new ≡ Some (faults.BadUrl line)) × ∥ IsBadText url ∥₁)
+
+-- a crawl is not to end, or it ends since one more read failed
+abbrev pub StopsIfUnread : Stream → Stream → Option CrawlFault → Option CrawlFault → Type 0
+StopsIfUnread before after old new = (new ≡ old) ⊎ ((new ≡ Some (faults.Input Read)) × OneMoreFailed before after)
 
 -- more of the file is read, and no URL
 pub record ReadsOn (old new : QueueShown) (before after : Option (List ℕ)) : Type 0 where
@@ -49,6 +64,7 @@ pub record ReadsOn (old new : QueueShown) (before after : Option (List ℕ)) : T
   pub left : new.left ≡ old.left
   pub options : new.options ≡ old.options
   pub file : new.file ≡ old.file
+  pub number : new.number ≡ old.number
 
 -- more URLs are read: first from the command line, then from the file
 pub record Reads (old new : QueueShown) (before after : Option (List ℕ)) : Type 0 where
@@ -60,6 +76,7 @@ pub record Reads (old new : QueueShown) (before after : Option (List ℕ)) : Typ
   pub lines : KnowsEnd old.lines before → ReadsFile from_file old.lines new.lines before after
   pub options : new.options ≡ old.options
   pub file : new.file ≡ old.file
+  pub number : new.number ≡ old.number
 
 -- these URLs are taken out of the queue; if one transfer is in flight at a time, from its front
 pub record TakesOut (taken : List Text) (old new : QueueShown) : Type 0 where
@@ -74,5 +91,6 @@ pub record TakesOut (taken : List Text) (old new : QueueShown) : Type 0 where
 pub record TakesBad (is_idle : Bool) (url : Text) (old new : QueueShown) : Type 0 where
   pub takes : TakesOut (url ∷ []) old new
   pub skips : old.options.flags.skip_bad ≡ true
+  pub number : new.number ≡ old.number
   pub idle : old.options.parallel ≡ 1 → is_idle ≡ true
   pub bad : ∥ IsBadText url ∥₁

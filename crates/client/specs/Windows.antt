@@ -1,5 +1,5 @@
 -- Windows of transfers that begin next, and the state that a queue keeps.
-use Rattle.std.specs.Prelude.{◌≡◌, ◌⊎◌, ◌++◌, ◌∷◌, [], string_bytes}
+use Rattle.std.specs.Prelude.{◌≡◌, ◌⊎◌, ◌+◌, ◌++◌, ◌∷◌, [], ℕ, string_bytes}
 use Rattle.exchange.specs.declared.job.Job.{Job}
 use Rattle.client.specs.FileLines.{lines_shown}
 use Rattle.client.specs.Lines.{Text}
@@ -11,31 +11,34 @@ use Rattle.client.specs.declared.crawl.queued.Queued.{Queued}
 use Rattle.client.specs.declared.crawl.window.Window.{Window}
 use Rattle.client.specs.declared.options.CrawlOptions.{CrawlOptions}
 
--- the transfer of that URL begins, with its job
-pub record Begins (options : CrawlOptions) (url : Text) (old new : Window) : Type 0 where
+-- the transfer of that URL begins, with its job and the next number
+pub record Begins (options : CrawlOptions) (url : Text) (number next : ℕ) (old new : Window) : Type 0 where
   pub job : Job
   pub one : InFlight
   pub its_url : string_bytes one.url ≡ url
   pub its : IsJobOf options job one
+  pub its_number : one.number ≡ number
+  pub next_is : next ≡ number + 1
   pub jobs : new.jobs.items ≡ old.jobs.items ++ (job ∷ [])
   pub transfers : new.transfers.items ≡ old.transfers.items ++ (one ∷ [])
   pub waiting : new.waiting.items ≡ old.waiting.items
 
--- that URL waits
-pub record Waits (url : Text) (old new : Window) : Type 0 where
+-- that URL waits, and no number is used
+pub record Waits (url : Text) (number next : ℕ) (old new : Window) : Type 0 where
   pub one : Queued
   pub its_url : url_queued one ≡ url
+  pub next_is : next ≡ number
   pub jobs : new.jobs.items ≡ old.jobs.items
   pub transfers : new.transfers.items ≡ old.transfers.items
   pub waiting : new.waiting.items ≡ old.waiting.items ++ (one ∷ [])
 
-abbrev pub BeginsOrWaits : CrawlOptions → Text → Window → Window → Type 0
-BeginsOrWaits options url old new = Begins options url old new ⊎ Waits url old new
+abbrev pub BeginsOrWaits : CrawlOptions → Text → ℕ → ℕ → Window → Window → Type 0
+BeginsOrWaits options url number next old new = Begins options url number next old new ⊎ Waits url number next old new
 
 -- hosts keep their places
 pub record KeepsHosts (old new : Queue) : Type 0 where
   pub table : new.hosts.table ≡ old.hosts.table
-  pub awaited : new.hosts.awaited.items ≡ old.hosts.awaited.items
+  pub in_use : new.hosts.in_use.items ≡ old.hosts.in_use.items
 
 -- the unread and the queued URLs stay the same
 pub record KeepsQueue (old new : Queue) : Type 0 where
@@ -53,6 +56,7 @@ pub record KeepsOthers (old new : Queue) : Type 0 where
   pub urls : new.urls.items ≡ old.urls.items
   pub lines : lines_shown new.lines ≡ lines_shown old.lines
   pub stop : new.stop ≡ old.stop
+  pub number : new.number ≡ old.number
   pub hosts : KeepsHosts old new
 
 -- the state stays the same

@@ -1,13 +1,14 @@
 -- The lines of a crawl, and its output.
-use Rattle.std.specs.Prelude.{◌≡◌, ◌+◌, ◌-◌, ◌^◌, ◌<◌, ◌⊎◌, ◌&&◌, ◌++◌, ◌∷◌, [], ℕ, min, nat_le, length, get_or, remove, count_by, flat_map, map, string_bytes, if◌then◌else◌, Bool, true, false, List, String, Option, Some, None, Result, Ok, Err}
+use Rattle.std.specs.Prelude.{◌≡◌, ◌≢◌, ◌+◌, ◌-◌, ◌^◌, ◌<◌, ◌⊎◌, ◌&&◌, ◌++◌, ◌∷◌, [], ℕ, min, nat_le, length, get_or, remove, count_by, flat_map, map, string_bytes, if◌then◌else◌, Bool, true, false, List, String, Option, Some, None, Result, Ok, Err}
 use Rattle.std.specs.Global.{Global}
 use Rattle.std.specs.Borrow.{GName}
 use Rattle.std.specs.Io.KnownBytes.{Appends}
+use Rattle.std.specs.List.{All}
 use Rattle.exchange.specs.declared.done.Done.{Done}
 use Rattle.exchange.specs.declared.done.Done.TheVariants.{Good, Bad}
 use Rattle.run_loop.specs.Taking.{JobResult, job_result}
 use Rattle.run_loop.specs.declared.results.Span.{Span}
-use Rattle.script_run.specs.Streams.{Stream, PutsFront, SameFailures, OneMoreFailed}
+use Rattle.script_run.specs.Streams.{Stream, PutFails, PutsFront, SameFailures, OneMoreFailed}
 use Rattle.script_text.specs.declared.fault.FaultKind.{FaultKind}
 use Rattle.script_text.specs.declared.fault.FaultKind.TheVariants.{Memory, Write}
 use Rattle.client.specs.Lines.{Text, fetched_as, line_of}
@@ -133,14 +134,27 @@ pub record WritesResult (result : JobResult) (old new : OutputShown) : Type 0 wh
   pub ended : line.ended ≡ Some result
   pub writes : WritesLine line old new
 
--- a result is taken: its line is written; or nothing is done, since no such transfer is in flight, or an earlier line
--- could not be written
-abbrev pub TakesResult : JobResult → OutputShown → OutputShown → Type 0
-TakesResult result old new = (new ≡ old) ⊎ WritesResult result old new
+-- no transfer in flight has that number
+abbrev pub HasNoTransfer : ℕ → List InFlight → Type 0
+HasNoTransfer number transfers = All (λ (one : InFlight). one.number ≢ number) transfers
 
--- a line is written if there was memory for its text, or not whole
+-- a result is ignored, since an earlier line could not be written, or no such transfer is in flight
+pub record IgnoresResult (result : JobResult) (old new : OutputShown) : Type 0 where
+  pub same : new ≡ old
+  pub reason : (old.fault ≢ None) ⊎ HasNoTransfer result.number old.in_flight
+
+-- a result is taken: its line is written, or it is ignored
+abbrev pub TakesResult : JobResult → OutputShown → OutputShown → Type 0
+TakesResult result old new = IgnoresResult result old new ⊎ WritesResult result old new
+
+-- a text is put whole, or its put fails with that fault
+abbrev pub PutsText : Stream → Stream → Text → Option FaultKind → Type 0
+PutsText old new text None = Appends old.bytes new.bytes text × SameFailures old new
+PutsText old new text (Some kind) = PutFails old new text kind
+
+-- a text is put, unless there was no memory for it
 abbrev pub WritesText : {E : Type 0} → Result (String Global) E → Stream → Stream → Option FaultKind → Type 0
-WritesText (Ok text) old new fault = PutsAs old new (string_bytes text) fault
+WritesText (Ok text) old new fault = PutsText old new (string_bytes text) fault
 WritesText (Err error) old new fault = (new ≡ old) × (fault ≡ Some Memory)
 
 -- the flags and the transfers in flight stay the same
@@ -169,9 +183,10 @@ url_written line = line.url
 abbrev pub urls_written : List Written → List Text
 urls_written lines = map url_written lines
 
--- results that satisfy this were taken, the newest first, and nothing else was
+-- the result of the transfer of that number is taken
 abbrev pub TakesShown : OutputShown → OutputShown → ℕ → Done → Span → Type 0
 TakesShown old new number done span = TakesResult (job_result number done span) old new
 
+-- results that satisfy this were taken, the newest first, and nothing else was
 abbrev pub TookAll : (List JobResult → Type 0) → OutputShown → OutputShown → Type 0
 TookAll Came old new = TakesAll Came TakesShown old new

@@ -7,11 +7,13 @@ ghost use Rattle.exchange.specs.declared.job.Job.{Job};
 ghost use Rattle.run_loop.specs.Taking.{JobResult};
 ghost use Rattle.script_run.specs.Streams.{CanCount, Stream};
 ghost use Rattle.client.specs.Crawling.{CrawlGiven, Crawls, HasFetched, HasStepped, IfEnd, IsAt};
-ghost use Rattle.client.specs.Crawling.{IsOver, crawl_given, hosts_of, jobs_begun, none_begun};
+ghost use Rattle.client.specs.Crawling.{LeavesUrls, crawl_given, hosts_of, jobs_begun};
+ghost use Rattle.client.specs.Crawling.{none_begun};
 ghost use Rattle.client.specs.Faults.{IsStepFault, line_fault};
 ghost use Rattle.client.specs.Reading.{TakesBad, queue_shown};
 ghost use Rattle.client.specs.Written.{TookAll, output_shown};
 ghost use Rattle.client.specs.declared.crawl.fault.CrawlFault.TheVariants as faults;
+ghost use Rattle.script_text.specs.declared.fault.FaultKind.TheVariants.{Read};
 
 pub(crate) mod crawler;
 pub(crate) mod fault;
@@ -121,7 +123,7 @@ impl Crawl {
             Err(fault) => return unopened(fault),
         };
         let names = network.names();
-        let has_failed = AtomicBool::new(false);
+        let cannot_write = AtomicBool::new(false);
         let mut progress = Progress {
             flags: options.flags,
             in_flight: Vec::new(alloc),
@@ -135,11 +137,11 @@ impl Crawl {
             alloc,
             progress: &mut progress,
             output,
-            has_failed: &has_failed,
+            cannot_write: &cannot_write,
         };
         let ended = fetch_urls(Queue::new(self), names, &mut crawler, input, &mut lines);
         let signals = CrawlSignals {
-            has_failed: &has_failed,
+            cannot_write: &cannot_write,
             names,
             input,
             wants_input: false,
@@ -175,6 +177,7 @@ fn fault_of(
     requires other { IfErr ended (λ fault. line_fault (Some fault) ≡ None) }
     ensures line { line_fault result ≡ line }
     ensures whole { result ≡ None → IsOk ended }
+    ensures failed_read { result ≡ Some (faults.Input Read) → ended ≡ Err (faults.Input Read) }
     ensures bad_url { (number : ℕ) → result ≡ Some (faults.BadUrl number)
         → ended ≡ Err (faults.BadUrl number) }
 {
@@ -224,7 +227,7 @@ fn fetch_urls<N: Names, C: Crawler, R: Source, W: Sink>(
             return Ok(());
         }
     }
-    // not reached in the lifetime of a machine
+    // 2^64 steps are never reached
     Err(OUT_OF_MEMORY)
 }
 
@@ -246,7 +249,7 @@ fn fetch<N: Names, C: Crawler, R: Source, W: Sink>(
     ensures fault { IfErr result IsStepFault }
 {
     let signals = CrawlSignals {
-        has_failed: output.has_failed,
+        cannot_write: output.cannot_write,
         names,
         input,
         wants_input: queue.wants_input(),
@@ -273,8 +276,8 @@ fn next_step<N: Names, C: Crawler, R: Source, W: Sink>(
     ensures can_go_on { C.can_go_on crawler.new }
     ensures same { output.new.output.ghost_name ≡ output.old.output.ghost_name }
     ensures fault { IfErr result IsStepFault }
-    ensures end { IfOk result (λ step. IfEnd step (queue.new.stop ≡ None
-        → output.new.progress.now.fault ≡ None → IsOver (queue_shown queue.new)
+    ensures end { IfOk result (λ step. IfEnd step (output.new.progress.now.fault ≡ None
+        → LeavesUrls queue.new.stop (queue_shown queue.new)
         output.new.progress.now.in_flight.items)) }
     ensures steps { (crawl : CrawlGiven) (jobs : List Job) (results : List JobResult)
         (first : Stream) → IsAt crawl jobs results first (R.source input.old).bytes
@@ -304,7 +307,7 @@ fn next_step<N: Names, C: Crawler, R: Source, W: Sink>(
 // The next step if nothing is in flight, after a wait for an answer if a URL waits for one.
 fn idle_step<N: Names>(queue: &Queue, names: &N) -> Step
     ensures none { jobs_begun result ≡ [] }
-    ensures end { IfEnd result (queue.now.stop ≡ None → IsOver (queue_shown queue.now) []) }
+    ensures end { IfEnd result (LeavesUrls queue.now.stop (queue_shown queue.now) []) }
 {
     if queue.awaits_name() {
         names.wait();
@@ -403,7 +406,7 @@ fn begin_urls<N: Names, C: Crawler, W: Sink>(
         (queue_shown queue.new) (output_shown output.new.progress.now
         (W.sink output.new.output.now) output.new.output.ghost_name) result }
 {
-    queue.settle(output.progress.in_flight.as_slice());
+    queue.mark_in_flight(output.progress.in_flight.as_slice());
     let free = queue.room(output.progress.in_flight.len());
     let Window {
         jobs,

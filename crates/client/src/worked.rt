@@ -1,8 +1,8 @@
-//! Lines of which it is known how they read, against which their definition was tried.
+//! Examples of lines, which check the definition of a line.
 
 ghost use Rattle.client.specs.Lines.{FaultLines, ResponseLines};
 
-/// The lines of transfers that ended so, by computation.
+/// Proves the lines of some results, by computation.
 pub fn worked_lines()
     ensures responses { ResponseLines }
     ensures faults { FaultLines }

@@ -17,8 +17,8 @@ pub trait Signals {
     fn has_news(&self) -> bool;
 }
 
-/// Runs the jobs of a crawl over kept connections. It has a place for each host, and must be
-/// finished.
+/// Runs the jobs of a crawl over kept connections. It has a place for each host. The caller must
+/// call `finish`.
 pub trait Crawler: Places {
     ghost use Rattle.std.specs.Prelude.{ℕ, List, [], OnOk};
     ghost use Rattle.client.specs.Results.{TakesAll};

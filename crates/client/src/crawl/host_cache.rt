@@ -20,6 +20,9 @@ pub trait HostCache<W: Wire>: Cache<W> {
     /// No connection is open at that place, and no transfer waits there.
     ghost unused: { Self → ℕ → Bool };
 
+    /// Returns the number of its places.
+    fn hosts(&self) -> u32;
+
     /// True if no connection is open at this place, and no transfer waits there.
     fn is_unused(&self, place: u32) -> bool
         ensures { result ≡ unused self.now place };
@@ -59,6 +62,10 @@ impl<W: Wire> HostCache<W> for Pool<W> {
     ghost use Rattle.client.specs.Unused.{is_unused_site};
 
     ghost unused = { λ pool place. is_unused_site pool place };
+
+    fn hosts(&self) -> u32 {
+        self.hosts()
+    }
 
     fn is_unused(&self, place: u32) -> bool {
         match self.look(place) {

@@ -2,7 +2,7 @@
 
 ghost use Rattle.std.specs.Prelude.{◌≡◌, ◌≤◌, ◌<◌, ◌&&◌, not, true, false, length, All};
 ghost use Rattle.std.specs.Prelude.{slice_set, IfOk, IfSome, OnOk};
-ghost use Rattle.client.specs.Hosts.{GrowsOrStays, IsAwaited, KeepsAwaited, is_awaited};
+ghost use Rattle.client.specs.Hosts.{GrowsOrStays, IsInUse, KeepsInUse, is_in_use};
 
 use crate::crawl::crawler::Crawler;
 use crate::crawl::in_flight::InFlight;
@@ -30,25 +30,35 @@ pub(crate) struct Hosts {
     /// By place, true if the system does not know its host.
     unknown: Vec<bool>,
     /// By place, true if a transfer is in flight there, or about to begin.
-    awaited: Vec<bool>,
-    ghost sized: { length table.keys ≤ length awaited.items },
+    in_use: Vec<bool>,
+    ghost sized: { length table.keys ≤ length in_use.items },
 }
 
 /// The unused places of a cache at which no transfer is in flight.
 #[derive(Drop)]
-struct Unawaited<'a, P: Places> {
+struct NotInUse<'a, P: Places> {
     cache: &'a P,
-    awaited: &'a [bool],
+    in_use: &'a [bool],
 }
 
-impl<P: Places> Places for Unawaited<'_, P> {
+impl<P: Places> Places for NotInUse<'_, P> {
     ghost unused = { λ places place. P.unused places.cache.now place
-        && not (is_awaited places.awaited.now place) };
+        && not (is_in_use places.in_use.now place) };
 
     fn is_unused(&self, place: u32) -> bool {
-        let awaited = self.awaited.get(place as usize).copied().unwrap_or(false);
-        self.cache.is_unused(place) && !awaited
+        let in_use = self.in_use.get(place as usize).copied().unwrap_or(false);
+        self.cache.is_unused(place) && !in_use
     }
+}
+
+/// Returns the key of a target's host, by which places are found: `host:port`.
+///
+/// # Errors
+///
+/// There is no memory for it.
+pub(crate) fn host_key(alloc: Global, target: &Target) -> Result<String, AllocError> {
+    let (host, port) = (target.host.as_str(), target.port);
+    format!(in alloc; "{host}:{port}")
 }
 
 impl Hosts {
@@ -62,12 +72,12 @@ impl Hosts {
             given,
             names: KnownNames::new(alloc),
             unknown: Vec::new(alloc),
-            awaited: Vec::new(alloc),
+            in_use: Vec::new(alloc),
         }
     }
 
-    /// Returns the place of the target's host, at which a transfer is about to begin. A host
-    /// without a place gets one once its addresses are known.
+    /// Returns the place of the target's host, which has that key, and at which a transfer is about
+    /// to begin. A host without a place gets one once its addresses are known.
     ///
     /// # Errors
     ///
@@ -75,6 +85,7 @@ impl Hosts {
     pub(crate) fn place<N: Names, C: Crawler>(
         &mut self,
         target: &Target,
+        key: &str,
         names: &N,
         crawler: &mut C,
     ) -> Result<Placed, AllocError>
@@ -82,16 +93,14 @@ impl Hosts {
         ensures can_go_on { C.can_go_on crawler.new }
         ensures gives { GivesPlace self.old self.new result }
     {
-        let (host, port) = (target.host.as_str(), target.port);
-        let key = format!(in self.alloc; "{host}:{port}")?;
-        if let Some(place) = self.table.find(key.as_str()) {
-            self.await_at(place);
+        if let Some(place) = self.table.find(key) {
+            self.mark_in_use(place);
             return Ok(Placed::At(place));
         }
         let Some(found) = self.addresses(target, names)? else {
             return Ok(Placed::Unresolved);
         };
-        self.give_place(key.as_str(), found, crawler)
+        self.give_place(key, found, crawler)
     }
 
     // Returns the addresses of the target's host, if they are known.
@@ -101,7 +110,7 @@ impl Hosts {
         names: &N,
     ) -> Result<Option<Vec<SocketAddr>>, AllocError>
         ensures table { self.new.table ≡ self.old.table }
-        ensures awaited { self.new.awaited.items ≡ self.old.awaited.items }
+        ensures in_use { self.new.in_use.items ≡ self.old.in_use.items }
     {
         let (host, port) = (target.host.as_str(), target.port);
         if let Some(address) = resolved_of(self.given.as_slice(), host, port) {
@@ -130,7 +139,7 @@ impl Hosts {
         };
         self.note_unknown(place, found.is_empty())?;
         crawler.set_host(place, found)?;
-        self.await_at(place);
+        self.mark_in_use(place);
         Ok(Placed::At(place))
     }
 
@@ -143,10 +152,10 @@ impl Hosts {
     ) -> Result<Option<u32>, AllocError>
         requires can_go_on { C.can_go_on crawler.old }
         ensures can_go_on { C.can_go_on crawler.new }
-        ensures keeps { KeepsAwaited self.old.table self.new.table self.old.awaited.items
-            self.new.awaited.items }
+        ensures keeps { KeepsInUse self.old.table self.new.table self.old.in_use.items
+            self.new.in_use.items }
         ensures there { IfOk result (λ found. IfSome found (λ place.
-            place < length self.new.awaited.items)) }
+            place < length self.new.in_use.items)) }
     {
         if let Some(place) = self.try_place(key, crawler)? {
             return Ok(Some(place));
@@ -157,15 +166,15 @@ impl Hosts {
 
     // Returns the place that the host of that key is given, if one is unused.
     fn try_place<C: Crawler>(&mut self, key: &str, crawler: &C) -> Result<Option<u32>, AllocError>
-        ensures keeps { KeepsAwaited self.old.table self.new.table self.old.awaited.items
-            self.new.awaited.items }
+        ensures keeps { KeepsInUse self.old.table self.new.table self.old.in_use.items
+            self.new.in_use.items }
         ensures there { IfOk result (λ found. IfSome found (λ place.
-            place < length self.new.awaited.items)) }
+            place < length self.new.in_use.items)) }
     {
-        self.add_awaited()?;
-        let unused = Unawaited {
+        self.add_place()?;
+        let unused = NotInUse {
             cache: crawler,
-            awaited: self.awaited.as_slice(),
+            in_use: self.in_use.as_slice(),
         };
         match self.table.place(key, &unused) {
             Ok(place) => Ok(Some(place)),
@@ -177,7 +186,7 @@ impl Hosts {
     // Records whether the host at that place is unknown to the system.
     fn note_unknown(&mut self, place: u32, is_unknown: bool) -> Result<(), AllocError>
         ensures table { self.new.table ≡ self.old.table }
-        ensures awaited { self.new.awaited.items ≡ self.old.awaited.items }
+        ensures in_use { self.new.in_use.items ≡ self.old.in_use.items }
     {
         match self.unknown.get_mut(place as usize) {
             Some(former) => *former = is_unknown,
@@ -187,38 +196,38 @@ impl Hosts {
     }
 
     // Makes room for the record of the next place.
-    fn add_awaited(&mut self) -> Result<(), AllocError>
+    fn add_place(&mut self) -> Result<(), AllocError>
         ensures table { self.new.table ≡ self.old.table }
-        ensures awaited { GrowsOrStays self.old.awaited.items self.new.awaited.items }
-        ensures room { OnOk result (length self.new.table.keys < length self.new.awaited.items) }
+        ensures in_use { GrowsOrStays self.old.in_use.items self.new.in_use.items }
+        ensures room { OnOk result (length self.new.table.keys < length self.new.in_use.items) }
     {
-        if (self.table.len() as usize) < self.awaited.len() {
+        if (self.table.len() as usize) < self.in_use.len() {
             return Ok(());
         }
-        match self.awaited.push(false) {
+        match self.in_use.push(false) {
             Ok(()) => Ok(()),
             Err(_) => Err(AllocError),
         }
     }
 
     // Records that a transfer is in flight at that place, or about to begin.
-    fn await_at(&mut self, place: u32)
+    fn mark_in_use(&mut self, place: u32)
         ensures table { self.new.table ≡ self.old.table }
-        ensures awaited { self.new.awaited.items ≡ slice_set self.old.awaited.items place true }
+        ensures in_use { self.new.in_use.items ≡ slice_set self.old.in_use.items place true }
     {
-        if let Some(awaited) = self.awaited.get_mut(place as usize) {
-            *awaited = true;
+        if let Some(in_use) = self.in_use.get_mut(place as usize) {
+            *in_use = true;
         }
     }
 
     /// Records that these transfers are in flight, and no others.
-    pub(crate) fn settle(&mut self, in_flight: &[InFlight])
+    pub(crate) fn mark_in_flight(&mut self, in_flight: &[InFlight])
         ensures table { self.new.table ≡ self.old.table }
-        ensures awaited_all { All (IsAwaited self.new.awaited.items) in_flight.now }
+        ensures all_in_use { All (IsInUse self.new.in_use.items) in_flight.now }
     {
-        self.awaited.as_mut_slice().fill(false);
+        self.in_use.as_mut_slice().fill(false);
         for one in in_flight {
-            self.await_at(one.place);
+            self.mark_in_use(one.place);
         }
     }
 
@@ -234,7 +243,7 @@ impl Hosts {
     /// There is no memory for them.
     pub(crate) fn learn<N: Names>(&mut self, names: &N) -> Result<(), AllocError>
         ensures table { self.new.table ≡ self.old.table }
-        ensures awaited { self.new.awaited.items ≡ self.old.awaited.items }
+        ensures in_use { self.new.in_use.items ≡ self.old.in_use.items }
     {
         for _ in 0..MOST_ANSWERS {
             let Some(answer) = names.answer() else {

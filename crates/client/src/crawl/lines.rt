@@ -6,9 +6,10 @@ ghost use Rattle.script_run.specs.Streams.{CanCount};
 ghost use Rattle.std.specs.Prelude.{string_bytes};
 ghost use Rattle.std.specs.Str.Lossy.{utf8_lossy};
 ghost use Rattle.client.specs.Urls.{IsBadLine};
-ghost use Rattle.client.specs.FileLines.{HasNoLine, IfBad, IsNextLine, NeedsMore, ReadsFile};
-ghost use Rattle.client.specs.FileLines.{is_skipped, lines_shown, nothing_read, urls_on};
-ghost use Rattle.client.specs.FileLines.{urls_returned};
+ghost use Rattle.client.specs.FileLines.{CountsRead, HasNoLine, HasNumber, IfBad, IsClassOf};
+ghost use Rattle.client.specs.FileLines.{IsNextLine, NeedsMore, NumbersLine, ReadsFile};
+ghost use Rattle.client.specs.FileLines.{is_skipped, lines_shown, nothing_read};
+ghost use Rattle.client.specs.FileLines.{urls_on, urls_returned};
 
 use script_run::Source;
 use script_text::place_of;
@@ -75,14 +76,15 @@ impl UrlLines {
         self.is_at_end || self.pending().contains(&b'\n')
     }
 
-    /// Returns the next line.
+    /// Returns the next line. Its number is one above that of the line before.
     ///
     /// # Errors
     ///
-    /// There is no memory for it.
+    /// There is no memory for it, or no number: 2^64 lines are never reached.
     pub(crate) fn next(&mut self, alloc: Global) -> Result<Line, AllocError>
         ensures next { IfOk result (λ line. IsNextLine line (lines_shown self.old)
             (lines_shown self.new)) }
+        ensures number { IfOk result (NumbersLine self.old.number self.new.number) }
         ensures bad { IfOk result (IfBad IsBadLine) }
     {
         let rest = self.pending();
@@ -93,8 +95,10 @@ impl UrlLines {
         if rest.is_empty() {
             return Ok(Line::Over);
         }
-        let number = self.number.saturating_add(1);
-        let line = line_of(alloc, rest.split_at(end).0, number)?;
+        let Some(number) = self.number.checked_add(1) else {
+            return Err(AllocError);
+        };
+        let line = classify_line(alloc, rest.split_at(end).0, number)?;
         self.from = self.from.saturating_add(end).saturating_add(1);
         self.number = number;
         Ok(line)
@@ -121,6 +125,9 @@ impl UrlLines {
         requires no_line { NeedsMore (lines_shown self.old) }
         ensures counts_on { IfOk result (λ was_read.
             was_read ≡ true → CanCount (R.source input.new)) }
+        ensures failures { IfOk result (λ was_read. CountsRead was_read (R.source input.old)
+            (R.source input.new)) }
+        ensures number { self.new.number ≡ self.old.number }
         ensures reads { OnOk result (ReadsFile [] (lines_shown self.old) (lines_shown self.new)
             (R.source input.old).bytes (R.source input.new).bytes) }
     {
@@ -144,6 +151,7 @@ impl UrlLines {
         ensures bytes { self.new.bytes.items ≡ self.old.bytes.items }
         ensures from { self.new.from ≡ self.old.from }
         ensures is_at_end { self.new.is_at_end ≡ self.old.is_at_end }
+        ensures number { self.new.number ≡ self.old.number }
     {
         if self.piece.is_empty() {
             self.piece = piece(alloc)?;
@@ -157,6 +165,7 @@ impl UrlLines {
         ensures bytes { self.new.bytes.items ≡ take 2050 (lines_shown self.old).pending }
         ensures from { self.new.from ≡ 0 }
         ensures is_at_end { self.new.is_at_end ≡ self.old.is_at_end }
+        ensures number { self.new.number ≡ self.old.number }
     {
         let from = self.from.min(self.bytes.len());
         drop(self.bytes.drain(..from));
@@ -172,9 +181,11 @@ fn piece(alloc: Global) -> Result<Vec<u8>, AllocError>
     vec![in alloc; 0; PIECE]
 }
 
-// Returns the kind of a line without its line feed.
-fn line_of(alloc: Global, line: &[u8], number: u64) -> Result<Line, AllocError>
+// Returns what a line without its line feed is: a URL, a bad line, or one that is skipped.
+fn classify_line(alloc: Global, line: &[u8], number: u64) -> Result<Line, AllocError>
     ensures urls { IfOk result (λ one. urls_returned one ≡ Some (urls_on line.now)) }
+    ensures class { IfOk result (IsClassOf (strip_carriage_return line.now)) }
+    ensures number { IfOk result (HasNumber number) }
     ensures bad { IfOk result (IfBad IsBadLine) }
 {
     let line = without_return(line);

@@ -9,6 +9,7 @@ use crate::crawl::names::{Answer, Names, Resolver};
 use std::alloc::{AllocError, Global};
 use std::collections::VecDeque;
 use std::marker::PhantomData;
+use std::sync::atomic::{AtomicBool, Ordering};
 use std::sync::{Condvar, Mutex, Wait};
 use std::time::Duration;
 
@@ -24,6 +25,8 @@ pub struct LookUps<'a, H: Wait, R: Resolver> {
     waits: &'a H,
     alloc: Global,
     state: Mutex<State<R>>,
+    // True if an answer is stored. It is set under the lock, and read without it.
+    has_answer: AtomicBool,
     // Notified when a name is added, and when the queue is closed.
     added: Condvar,
     // Notified when an answer is stored.
@@ -115,6 +118,7 @@ impl<'a, H: Wait, R: Resolver> LookUps<'a, H, R> {
             waits,
             alloc,
             state: Mutex::new(State::new(alloc)),
+            has_answer: AtomicBool::new(false),
             added: Condvar::new(),
             answered: Condvar::new(),
         }
@@ -151,7 +155,11 @@ impl<'a, H: Wait, R: Resolver> LookUps<'a, H, R> {
 
     // Stores an answer, and wakes up the caller that waits for it.
     fn store(&self, found: Found<R>) {
-        self.state.lock(self.waits).store(found);
+        {
+            let mut state = self.state.lock(self.waits);
+            state.store(found);
+            self.has_answer.store(true, Ordering::SeqCst);
+        }
         self.answered.notify_one();
     }
 }
@@ -169,12 +177,18 @@ impl<H: Wait, R: Resolver> Names for LookUps<'_, H, R> {
     }
 
     fn answer(&self) -> Option<Answer> {
-        let found = self.state.lock(self.waits).answers.pop_front()?;
-        Some(found.answer)
+        if !self.has_answer() {
+            return None;
+        }
+        let mut state = self.state.lock(self.waits);
+        let found = state.answers.pop_front();
+        self.has_answer
+            .store(!state.answers.is_empty(), Ordering::SeqCst);
+        Some(found?.answer)
     }
 
     fn has_answer(&self) -> bool {
-        !self.state.lock(self.waits).answers.is_empty()
+        self.has_answer.load(Ordering::SeqCst)
     }
 
     fn wait(&self) {

@@ -27,7 +27,7 @@ const MICROS: u64 = 1_000_000;
 const JOBS_BETWEEN_CUTS: usize = 1_024;
 
 /// A cache, the dial that opens its connections, a clock, and the loop of the transfers in flight.
-/// It must be finished.
+/// The caller must call `finish`.
 pub struct LoopCrawler<
     'a,
     H: Wait,
@@ -82,7 +82,8 @@ impl<
             (C.tells crawler.clock)) (C.tells_micros crawler.clock) (K.home crawler.cache)
             crawler.run.slab.slots crawler.run.begins.moments.items) }
     {
-        let run = RunLoop::new(alloc, options.parallel as usize, task)?;
+        let hosts = cache.hosts() as usize;
+        let run = RunLoop::new(alloc, options.parallel as usize, hosts, task)?;
         Ok(LoopCrawler {
             waits,
             alloc,

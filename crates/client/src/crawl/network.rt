@@ -10,7 +10,7 @@ use std::alloc::Global;
 pub trait Network {
     ghost use Rattle.std.specs.Prelude.{IfOk};
 
-    /// Carries out the jobs of a crawl. It must be finished.
+    /// Carries out the jobs of a crawl. The caller must call `finish`.
     type Crawler: Crawler;
 
     type Names: Names;

@@ -1,11 +1,11 @@
 //! Writes the lines of a crawl as its transfers end.
 
 ghost use Rattle.std.specs.Prelude.{◌≡◌, ◌==◌, ◌<◌, Some, None, false, length, string_bytes};
-ghost use Rattle.std.specs.Prelude.{IfOk, IfSome, OnErr, OnOk};
+ghost use Rattle.std.specs.Prelude.{IfNone, IfOk, IfSome, OnErr, OnOk};
 ghost use Rattle.std.specs.List.{HoldsAt};
 ghost use Rattle.script_run.specs.Streams.{CanCount};
 ghost use Rattle.client.specs.Lines.{fetched_as, line_of};
-ghost use Rattle.client.specs.Written.{done_failed};
+ghost use Rattle.client.specs.Written.{HasNoTransfer, done_failed};
 
 use crate::crawl::in_flight::{InFlight, Tally};
 use crate::crawl::json::{JsonLine, Outcome};
@@ -30,7 +30,7 @@ pub(crate) struct Output<'w, W: Sink> {
     pub(crate) progress: &'w mut Progress,
     pub(crate) output: &'w mut W,
     /// Set once a line could not be written.
-    pub(crate) has_failed: &'w AtomicBool,
+    pub(crate) cannot_write: &'w AtomicBool,
     ghost counts: { progress.now.fault ≡ None → CanCount (W.sink output.now) },
 }
 
@@ -46,24 +46,25 @@ impl<W: Sink> Results for Output<'_, W> {
         if self.progress.fault.is_some() {
             return;
         }
-        let Some(place) = place_of(self.progress.in_flight.as_slice(), number) else {
+        let Some(index) = index_of_transfer(self.progress.in_flight.as_slice(), number) else {
             return;
         };
-        let one = self.progress.in_flight.remove(place);
+        let one = self.progress.in_flight.remove(index);
         let flags = self.progress.flags;
         let line = transfer_line(self.alloc, flags, &one, done, span);
-        self.write(line, has_failed(flags, done));
+        self.write(line, is_failure(flags, done));
     }
 }
 
-// Returns the place of the transfer of that number, if it is in flight.
-fn place_of(in_flight: &[InFlight], number: u64) -> Option<usize>
-    ensures below { IfSome result (λ place. place < length in_flight.now) }
+// Returns the index of the transfer of that number, if it is in flight.
+fn index_of_transfer(in_flight: &[InFlight], number: u64) -> Option<usize>
+    ensures below { IfSome result (λ index. index < length in_flight.now) }
     ensures there { IfSome result (HoldsAt (λ one. one.number ≡ number) in_flight.now) }
+    ensures none { IfNone result (HasNoTransfer number in_flight.now) }
 {
-    for place in 0..in_flight.len() {
-        if in_flight[place].number == number {
-            return Some(place);
+    for index in 0..in_flight.len() {
+        if in_flight[index].number == number {
+            return Some(index);
         }
     }
     None
@@ -115,18 +116,18 @@ impl<W: Sink> Output<'_, W> {
     }
 
     // Counts a URL, and writes its line, if there was memory for it.
-    fn write(&mut self, line: Result<String, AllocError>, has_failed: bool)
+    fn write(&mut self, line: Result<String, AllocError>, is_failure: bool)
         requires whole { self.old.progress.now.fault ≡ None }
         ensures puts { WritesText line (W.sink self.old.output.now) (W.sink self.new.output.now)
             self.new.progress.now.fault }
-        ensures counts { Counts has_failed self.old.progress.now.tally
+        ensures counts { Counts is_failure self.old.progress.now.tally
             self.new.progress.now.tally }
         ensures flags { self.new.progress.now.flags ≡ self.old.progress.now.flags }
         ensures in_flight { self.new.progress.now.in_flight.items
             ≡ self.old.progress.now.in_flight.items }
         ensures name { self.new.output.ghost_name ≡ self.old.output.ghost_name }
     {
-        self.count(has_failed);
+        self.count(is_failure);
         let Ok(line) = line else {
             self.fail(FaultKind::Memory);
             return;
@@ -148,12 +149,12 @@ impl<W: Sink> Output<'_, W> {
         ensures name { self.new.output.ghost_name ≡ self.old.output.ghost_name }
     {
         self.progress.fault = Some(kind);
-        self.has_failed.store(true, Ordering::SeqCst);
+        self.cannot_write.store(true, Ordering::SeqCst);
     }
 
     // Counts a URL.
-    fn count(&mut self, has_failed: bool)
-        ensures counts { Counts has_failed self.old.progress.now.tally
+    fn count(&mut self, is_failure: bool)
+        ensures counts { Counts is_failure self.old.progress.now.tally
             self.new.progress.now.tally }
         ensures same { KeepsProgress self.old.progress.now self.new.progress.now }
         ensures fault { self.new.progress.now.fault ≡ self.old.progress.now.fault }
@@ -163,13 +164,13 @@ impl<W: Sink> Output<'_, W> {
         let Tally { lines, failed } = self.progress.tally;
         self.progress.tally = Tally {
             lines: lines.saturating_add(1),
-            failed: failed.saturating_add(has_failed as u64),
+            failed: failed.saturating_add(is_failure as u64),
         };
     }
 }
 
 // True if a transfer with this result has failed.
-fn has_failed(flags: CrawlFlags, done: Done) -> bool
+fn is_failure(flags: CrawlFlags, done: Done) -> bool
     ensures { result ≡ done_failed flags done }
 {
     match done {

@@ -6,7 +6,7 @@ ghost use Rattle.client.specs.Faults.{CanEnd, can_end};
 use crate::crawl::Crawl;
 use crate::crawl::crawler::Crawler;
 use crate::crawl::fault::CrawlFault;
-use crate::crawl::hosts::Hosts;
+use crate::crawl::hosts::{Hosts, host_key};
 use crate::crawl::in_flight::InFlight;
 use crate::crawl::lines::{Line, UrlLines};
 use crate::crawl::names::Names;
@@ -44,6 +44,8 @@ pub(crate) struct Queue {
     stop: Option<CrawlFault>,
     // The URLs that were read, in order.
     queued: VecDeque<Queued>,
+    // Number of bad URLs in the queue.
+    bad: usize,
     // Number of the next job.
     number: u64,
     hosts: Hosts,
@@ -61,11 +63,13 @@ impl Queue {
     ghost use Rattle.std.specs.Prelude.{length, option_to_list, string_bytes};
     ghost use Rattle.std.specs.Prelude.{IfErr, IfNone, IfOk, IfSome, OnOk, OnSome};
     ghost use Rattle.script_run.specs.Streams.{CanCount};
-    ghost use Rattle.client.specs.Crawling.{crawl_given, queue_given};
+    ghost use Rattle.client.specs.Crawling.{LeavesUrls, crawl_given, fault_in, queue_given};
     ghost use Rattle.client.specs.FileLines.{HasNoLine, NeedsMore};
-    ghost use Rattle.client.specs.Hosts.{AreAwaited, IsAwaited, KeepsAwaited, is_awaited};
-    ghost use Rattle.client.specs.Reading.{AddsUrl, Reads, ReadsOn, TakesBad, TakesOut};
+    ghost use Rattle.client.specs.Hosts.{AreInUse, IsInUse, KeepsInUse, is_in_use};
+    ghost use Rattle.client.specs.Reading.{AddsUrl, Reads, ReadsOn, StopsIfBad, StopsIfUnread};
+    ghost use Rattle.client.specs.Reading.{TakesBad, TakesOut};
     ghost use Rattle.client.specs.Reading.{queue_shown, url_queued};
+    ghost use Rattle.client.specs.Results.{HaveNumbers};
     ghost use Rattle.client.specs.Windows.{Begins, BeginsOrWaits, KeepsAll, KeepsHosts};
     ghost use Rattle.client.specs.Windows.{KeepsOthers, KeepsQueue};
     ghost use Rattle.client.specs.Steps.{IsJobOf, want_of};
@@ -95,24 +99,23 @@ impl Queue {
             lines: UrlLines::new(alloc),
             stop: None,
             queued: VecDeque::new(alloc),
+            bad: 0,
             number: 0,
             hosts: Hosts::new(alloc, resolved),
             awaits_name: false,
         }
     }
 
-    /// True if no URL is left to be read or begun, once nothing is in flight and no URL waits for
-    /// addresses.
+    /// True if no URL is left to be read or begun. After a failed read, URLs of the file may be
+    /// unread; at a bad URL that is not skipped, it is left, and more may be unread.
     pub(crate) fn is_over(&self) -> bool
-        ensures words { result ≡ true → self.now.stop ≡ None
-            → ((queue_shown self.now).left ≡ []) × ((queue_shown self.now).queued ≡ []) }
-        ensures lines { result ≡ true → self.now.stop ≡ None
-            → self.now.file ≢ NoFile → HasNoLine (queue_shown self.now).lines }
+        ensures { result ≡ true → LeavesUrls self.now.stop (queue_shown self.now) [] }
     {
-        if self.stop.is_some() {
-            return true;
+        match self.stop {
+            None => self.queued.is_empty() && self.is_read(),
+            Some(CrawlFault::BadUrl(_)) => self.queued.len() == 1 && self.is_bad_at(0),
+            Some(_) => self.queued.is_empty() && self.urls.is_empty(),
         }
-        self.queued.is_empty() && self.is_read()
     }
 
     // True if no URL is left to be read.
@@ -130,7 +133,7 @@ impl Queue {
     ///
     /// `BadUrl` if a URL is bad, and bad URLs are not skipped, `Input` if a read failed.
     pub(crate) fn end(&self) -> Result<(), CrawlFault>
-        ensures whole { OnOk result (self.now.stop ≡ None) }
+        ensures stop { fault_in result ≡ self.now.stop }
         ensures fault { IfErr result (CanEnd self.now.options) }
     {
         match self.stop {
@@ -227,6 +230,8 @@ impl Queue {
             (self.new.stop ≡ None → CanCount (R.source input.new)) }
         ensures reads { OnOk result (ReadsOn (queue_shown self.old) (queue_shown self.new)
             (R.source input.old).bytes (R.source input.new).bytes) }
+        ensures stop { OnOk result (StopsIfUnread (R.source input.old) (R.source input.new)
+            self.old.stop self.new.stop) }
         ensures hosts { KeepsHosts self.old self.new }
     {
         let may_wait = is_idle && self.queued.is_empty();
@@ -245,11 +250,13 @@ impl Queue {
     fn add(&mut self, url: String, line: u64) -> Result<bool, AllocError>
         ensures added { OnOk result (AddsUrl (string_bytes url) (queue_shown self.old)
             (queue_shown self.new)) }
+        ensures stop { StopsIfBad (string_bytes url) line self.old.stop self.new.stop }
         ensures hosts { KeepsHosts self.old self.new }
     {
         match url_target(self.alloc, url.as_str()) {
             Ok(target) => {
-                let route = Route::To(target);
+                let host_key = host_key(self.alloc, &target)?;
+                let route = Route::To(target, host_key);
                 self.push(Queued { url, route })
             }
             Err(UrlFault::Memory) => Err(AllocError),
@@ -263,11 +270,13 @@ impl Queue {
         requires bad { ∥ IsBadText (string_bytes url) ∥₁ }
         ensures added { OnOk result (AddsUrl (string_bytes url) (queue_shown self.old)
             (queue_shown self.new)) }
+        ensures stop { StopsIfBad (string_bytes url) line self.old.stop self.new.stop }
         ensures hosts { KeepsHosts self.old self.new }
     {
         if !self.options.flags.skip_bad {
             self.stop = Some(CrawlFault::BadUrl(line));
         }
+        self.bad = self.bad.saturating_add(1);
         let route = Route::Bad;
         self.push(Queued { url, route })
     }
@@ -276,6 +285,7 @@ impl Queue {
     fn push(&mut self, one: Queued) -> Result<bool, AllocError>
         ensures added { OnOk result (AddsUrl (string_bytes one.url) (queue_shown self.old)
             (queue_shown self.new)) }
+        ensures stop { self.new.stop ≡ self.old.stop }
         ensures hosts { KeepsHosts self.old self.new }
     {
         self.queued.push_back(one)?;
@@ -293,11 +303,12 @@ impl Queue {
             (length self.new.queued.items < length self.old.queued.items) }
         ensures hosts { KeepsHosts self.old self.new }
     {
-        if !self.options.flags.skip_bad {
+        if !self.options.flags.skip_bad || self.bad == 0 {
             return None;
         }
         let place = self.next_bad(is_idle)?;
         let Queued { url, route: _ } = self.queued.remove(place)?;
+        self.bad = self.bad.saturating_sub(1);
         Some(url)
     }
 
@@ -343,12 +354,12 @@ impl Queue {
     }
 
     /// Records that these transfers are in flight, and no others.
-    pub(crate) fn settle(&mut self, in_flight: &[InFlight])
+    pub(crate) fn mark_in_flight(&mut self, in_flight: &[InFlight])
         ensures same { queue_shown self.new ≡ queue_shown self.old }
         ensures stop { self.new.stop ≡ self.old.stop }
-        ensures awaited_all { All (IsAwaited self.new.hosts.awaited.items) in_flight.now }
+        ensures all_in_use { All (IsInUse self.new.hosts.in_use.items) in_flight.now }
     {
-        self.hosts.settle(in_flight);
+        self.hosts.mark_in_flight(in_flight);
     }
 
     /// Number of transfers that may begin next to `in_flight` others.
@@ -382,11 +393,13 @@ impl Queue {
         ensures stop { self.new.stop ≡ self.old.stop }
         ensures jobs { IfOk result (λ window. AllZip (IsJobOf self.old.options)
             window.jobs.items window.transfers.items) }
+        ensures numbers { IfOk result (λ window. HaveNumbers self.old.number self.new.number
+            window.jobs.items) }
         ensures few { IfOk result (λ window. length window.transfers.items ≤ free) }
-        ensures keeps { KeepsAwaited self.old.hosts.table self.new.hosts.table
-            self.old.hosts.awaited.items self.new.hosts.awaited.items }
-        ensures awaits { IfOk result (λ window.
-            AreAwaited self.new.hosts.awaited.items window.transfers.items) }
+        ensures keeps { KeepsInUse self.old.hosts.table self.new.hosts.table
+            self.old.hosts.in_use.items self.new.hosts.in_use.items }
+        ensures in_use { IfOk result (λ window.
+            AreInUse self.new.hosts.in_use.items window.transfers.items) }
     {
         let mut window = Window::new(self.alloc);
         self.awaits_name = false;
@@ -427,31 +440,35 @@ impl Queue {
     ) -> Result<(), AllocError>
         requires can_go_on { C.can_go_on crawler.old }
         ensures can_go_on { C.can_go_on crawler.new }
-        ensures begins { OnOk result (BeginsOrWaits self.old.options (url_queued one) window.old
-            window.new) }
+        ensures begins { OnOk result (BeginsOrWaits self.old.options (url_queued one)
+            self.old.number self.new.number window.old window.new) }
         ensures same { KeepsQueue self.old self.new }
-        ensures keeps { KeepsAwaited self.old.hosts.table self.new.hosts.table
-            self.old.hosts.awaited.items self.new.hosts.awaited.items }
-        ensures awaits { OnOk result
-            (AreAwaited self.old.hosts.awaited.items window.old.transfers.items
-            → AreAwaited self.new.hosts.awaited.items window.new.transfers.items) }
+        ensures keeps { KeepsInUse self.old.hosts.table self.new.hosts.table
+            self.old.hosts.in_use.items self.new.hosts.in_use.items }
+        ensures in_use { OnOk result
+            (AreInUse self.old.hosts.in_use.items window.old.transfers.items
+            → AreInUse self.new.hosts.in_use.items window.new.transfers.items) }
     {
         let Queued { url, route } = one;
-        let Route::To(target) = route else {
+        let Route::To(target, host_key) = route else {
             let route = Route::Bad;
             return window.wait(Queued { url, route });
         };
-        match self.hosts.place(&target, names, crawler)? {
+        match self
+            .hosts
+            .place(&target, host_key.as_str(), names, crawler)?
+        {
             Placed::At(place) => self.begin(url, target, place, window),
             placed => {
                 self.awaits_name |= placed == Placed::Unresolved;
-                let route = Route::To(target);
+                let route = Route::To(target, host_key);
                 window.wait(Queued { url, route })
             }
         }
     }
 
-    // Begins the transfer of a URL with that target, at that place, with the next number.
+    // Begins the transfer of a URL with that target, at that place, with the next number. No crawl
+    // reaches the last number, 2^64 - 2.
     fn begin(
         &mut self,
         url: String,
@@ -460,15 +477,18 @@ impl Queue {
         window: &mut Window,
     ) -> Result<(), AllocError>
         requires leads { ∥ GivesTarget (string_bytes url) target ∥₁ }
-        ensures begins { OnOk result (Begins self.old.options (string_bytes url) window.old
-            window.new) }
+        ensures begins { OnOk result (Begins self.old.options (string_bytes url)
+            self.old.number self.new.number window.old window.new) }
         ensures same { KeepsAll self.old self.new }
-        ensures awaits { OnOk result (is_awaited self.old.hosts.awaited.items place ≡ true
-            → AreAwaited self.old.hosts.awaited.items window.old.transfers.items
-            → AreAwaited self.old.hosts.awaited.items window.new.transfers.items) }
+        ensures in_use { OnOk result (is_in_use self.old.hosts.in_use.items place ≡ true
+            → AreInUse self.old.hosts.in_use.items window.old.transfers.items
+            → AreInUse self.old.hosts.in_use.items window.new.transfers.items) }
     {
         let number = self.number;
-        self.number = number.saturating_add(1);
+        let Some(next) = number.checked_add(1) else {
+            return Err(AllocError);
+        };
+        self.number = next;
         let job = Job {
             site: place,
             want: self.want(number),

@@ -22,7 +22,7 @@ impl Queued {
     {
         match self.route {
             Route::Bad => true,
-            Route::To(_) => false,
+            Route::To(_, _) => false,
         }
     }
 }

@@ -5,7 +5,8 @@ use conn_key::Target;
 /// The target of a URL, if it has one.
 #[derive(Drop)]
 pub(crate) enum Route {
-    To(Target),
+    /// The target, and the key of its host.
+    To(Target, String),
     /// None: the URL is bad.
     Bad,
 }

@@ -9,7 +9,7 @@ use std::sync::atomic::{AtomicBool, Ordering};
 #[derive(Drop)]
 pub(crate) struct CrawlSignals<'a, N: Names, R: Source> {
     /// A line could not be written.
-    pub(crate) has_failed: &'a AtomicBool,
+    pub(crate) cannot_write: &'a AtomicBool,
     pub(crate) names: &'a N,
     pub(crate) input: &'a R,
     /// More of the input is wanted, once a read of it does not wait.
@@ -18,7 +18,7 @@ pub(crate) struct CrawlSignals<'a, N: Names, R: Source> {
 
 impl<N: Names, R: Source> Signals for CrawlSignals<'_, N, R> {
     fn is_over(&self) -> bool {
-        self.has_failed.load(Ordering::SeqCst)
+        self.cannot_write.load(Ordering::SeqCst)
     }
 
     fn has_news(&self) -> bool {

@@ -1,13 +1,14 @@
 -- URLs are fetched step by step.
-use Rattle.std.proofs.Common.{◌∙◌, sym, subst, List}
-use Rattle.std.specs.Prelude.{IfErr}
-use Rattle.exchange.specs.declared.job.Job.{Job}
+use Rattle.std.proofs.Common.{◌∙◌, ap, sym, subst}
+use Rattle.std.specs.Prelude.{IfErr, Option}
+use Rattle.client.specs.Crawling.{LeavesUrls, jobs_begun}
 use Rattle.client.specs.Faults.{CanEnd}
 use Rattle.client.specs.Reading.{queue_shown}
-use Rattle.client.specs.Written.{TookAll, output_shown}
-use Rattle.client.specs.declared.crawl.Step.TheVariants.{Fetch, Read, End}
+use Rattle.client.specs.Written.{output_shown}
+use Rattle.client.specs.declared.crawl.Step.TheVariants.{Read, End}
+use Rattle.client.specs.declared.crawl.fault.CrawlFault.{CrawlFault}
 use Rattle.client.specs.declared.options.CrawlOptions.{CrawlOptions}
-use Rattle.client.proofs.Finished.{at_ok, end_from, fault_is, fetched_here, fetches_on, step_from, stopped_here}
+use Rattle.client.proofs.Finished.{end_from, fault_is, fetched_here, fetches_begun, step_from, stopped_here}
 use Rattle.client.proofs.Taken.{name_all}
 use Rattle.client.proofs.crawl.fetch_urls.Goals as goal
 
@@ -38,7 +39,8 @@ returns-in-Ok-End-clause-fetches g c = λ crawl first at. (
     let now = output_shown is.progress.now (g.W.Sink.sink is.output.now) is.output.ghost_name in
     let at' = step_from c.in-Ok-End.field-0 End crawl f.jobs f.results first (g.R.Source.source c.next_step.new.input).bytes queue now c.in-Ok-End.field-0-is (c.in-Ok-End.ensures.steps crawl f.jobs f.results first f.at) in
     let over = end_from c.in-Ok-End.field-0 End _ c.in-Ok-End.field-0-is c.in-Ok-End.ensures.end in
-    fetched_here g.C.Crawler.crawled crawl first (g.R.Source.source c.next_step.new.input).bytes queue now _ (record { jobs = f.jobs; results = f.results; ran = f.ran; at = at' }) (λ ok none. over (at_ok c.end.result _ c.end.ensures.whole ok) none)
+    fetched_here g.C.Crawler.crawled crawl first (g.R.Source.source c.next_step.new.input).bytes queue now _ (record { jobs = f.jobs; results = f.results; ran = f.ran; at = at' })
+    (λ none. subst (λ (stop : Option CrawlFault). LeavesUrls stop queue is.progress.now.in_flight.items) (sym c.end.ensures.stop) (over none))
     (subst (λ (o : CrawlOptions). IfErr c.end.result (CanEnd o)) at'.options c.end.ensures.fault))
 
 pub returns-in-Err-clause-fetches : goal.returns-in-Err-clause-fetches
@@ -58,10 +60,8 @@ returns-in-Err-fetch-clause-fetches g c = λ crawl first at. (
     let queue = queue_shown c.next_step.new.queue in
     let mid = output_shown was.progress.now (g.W.Sink.sink was.output.now) was.output.ghost_name in
     let now = output_shown is.progress.now (g.W.Sink.sink is.output.now) is.output.ghost_name in
-    let jobs = c.in-Ok-Fetch.jobs.items in
-    let took = subst (λ (l : List Job). TookAll (g.C.Crawler.crawled c.next_step.new.crawler c.fetch.new.crawler l) mid now) c.as_slice.ensures.value c.fetch.ensures.takes in
-    let at' = step_from c.in-Ok-Fetch.field-0 (Fetch c.in-Ok-Fetch.jobs) crawl f.jobs f.results first (g.R.Source.source c.next_step.new.input).bytes queue mid c.in-Ok-Fetch.field-0-is (c.in-Ok-Fetch.ensures.steps crawl f.jobs f.results first f.at) in
-    let on = fetches_on g.C.Crawler.crawled crawl first c.next_step.new.crawler c.fetch.new.crawler jobs f.jobs f.results (g.R.Source.source c.next_step.new.input).bytes queue mid now f.ran at' took in
+    let on = fetches_begun g.C.Crawler.crawled crawl first c.next_step.new.crawler c.fetch.new.crawler c.in-Ok-Fetch.field-0 c.as_slice.result.now f.jobs f.results (g.R.Source.source c.next_step.new.input).bytes queue mid now f.ran
+    (ap jobs_begun c.in-Ok-Fetch.field-0-is ∙ sym c.as_slice.ensures.value) (c.in-Ok-Fetch.ensures.steps crawl f.jobs f.results first f.at) c.fetch.ensures.takes in
     stopped_here g.C.Crawler.crawled crawl first on.jobs on.results now _ on.ran ((g.R.Source.source c.next_step.new.input).bytes, queue, on.at) c.in-Err-fetch.ensures.fault)
 
 pub returns-then-is_some-clause-same : goal.returns-then-is_some-clause-same
@@ -75,11 +75,9 @@ returns-then-is_some-clause-fetches g c = λ crawl first at. (
     let queue = queue_shown c.next_step.new.queue in
     let mid = output_shown was.progress.now (g.W.Sink.sink was.output.now) was.output.ghost_name in
     let now = output_shown is.progress.now (g.W.Sink.sink is.output.now) is.output.ghost_name in
-    let jobs = c.in-Ok-Fetch.jobs.items in
-    let took = subst (λ (l : List Job). TookAll (g.C.Crawler.crawled c.next_step.new.crawler c.fetch.new.crawler l) mid now) c.as_slice.ensures.value c.fetch.ensures.takes in
-    let at' = step_from c.in-Ok-Fetch.field-0 (Fetch c.in-Ok-Fetch.jobs) crawl f.jobs f.results first (g.R.Source.source c.next_step.new.input).bytes queue mid c.in-Ok-Fetch.field-0-is (c.in-Ok-Fetch.ensures.steps crawl f.jobs f.results first f.at) in
-    let on = fetches_on g.C.Crawler.crawled crawl first c.next_step.new.crawler c.fetch.new.crawler jobs f.jobs f.results (g.R.Source.source c.next_step.new.input).bytes queue mid now f.ran at' took in
-    fetched_here g.C.Crawler.crawled crawl first (g.R.Source.source c.next_step.new.input).bytes queue now _ on (λ ok none. fault_is is.progress.now.fault _ (sym c.is_some.ensures ∙ c.if-is_some.true) none) tt)
+    let on = fetches_begun g.C.Crawler.crawled crawl first c.next_step.new.crawler c.fetch.new.crawler c.in-Ok-Fetch.field-0 c.as_slice.result.now f.jobs f.results (g.R.Source.source c.next_step.new.input).bytes queue mid now f.ran
+    (ap jobs_begun c.in-Ok-Fetch.field-0-is ∙ sym c.as_slice.ensures.value) (c.in-Ok-Fetch.ensures.steps crawl f.jobs f.results first f.at) c.fetch.ensures.takes in
+    fetched_here g.C.Crawler.crawled crawl first (g.R.Source.source c.next_step.new.input).bytes queue now _ on (λ none. fault_is is.progress.now.fault _ (sym c.is_some.ensures ∙ c.if-is_some.true) none) tt)
 
 pub loop-preserved : goal.loop-preserved
 loop-preserved g c =
@@ -96,9 +94,8 @@ loop-preserved g c =
           let queue = queue_shown c.next_step.new.queue in
           let mid = output_shown was.progress.now (g.W.Sink.sink was.output.now) was.output.ghost_name in
           let now = output_shown is.progress.now (g.W.Sink.sink is.output.now) is.output.ghost_name in
-          let took = subst (λ (l : List Job). TookAll (g.C.Crawler.crawled c.next_step.new.crawler c.fetch.new.crawler l) mid now) c.as_slice.ensures.value c.fetch.ensures.takes in
-          let at' = step_from c.in-Ok-Fetch.field-0 (Fetch c.in-Ok-Fetch.jobs) crawl f.jobs f.results first (g.R.Source.source c.next_step.new.input).bytes queue mid c.in-Ok-Fetch.field-0-is (c.in-Ok-Fetch.ensures.steps crawl f.jobs f.results first f.at) in
-          fetches_on g.C.Crawler.crawled crawl first c.next_step.new.crawler c.fetch.new.crawler c.in-Ok-Fetch.jobs.items f.jobs f.results (g.R.Source.source c.next_step.new.input).bytes queue mid now f.ran at' took);
+          fetches_begun g.C.Crawler.crawled crawl first c.next_step.new.crawler c.fetch.new.crawler c.in-Ok-Fetch.field-0 c.as_slice.result.now f.jobs f.results (g.R.Source.source c.next_step.new.input).bytes queue mid now f.ran
+          (ap jobs_begun c.in-Ok-Fetch.field-0-is ∙ sym c.as_slice.ensures.value) (c.in-Ok-Fetch.ensures.steps crawl f.jobs f.results first f.at) c.fetch.ensures.takes);
     }
 
 pub returns-clause-fetches : goal.returns-clause-fetches

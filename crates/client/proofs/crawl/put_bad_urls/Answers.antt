@@ -25,7 +25,7 @@ loop-url-preserved g c =
       at = λ crawl jobs results first source at. (
           let was = c.loop-url.invariant.at crawl jobs results first source at in
           at_bad crawl jobs results first source _ (queue_shown queue) (queue_shown left) before after (sym (ap (λ (o : CrawlOptions). o.flags.skip_bad) was.options) ∙ c.in-Some.ensures.takes.skips) c.in-Some.ensures.takes.bad
-          (λ p. c.loop-url.invariant.in_flight ∙ c.requires.idle (c.in-Some.ensures.takes.idle (ap (λ (o : CrawlOptions). o.parallel) was.options ∙ p))) was c.in-Some.ensures.takes.takes writes);
+          (λ p. c.loop-url.invariant.in_flight ∙ c.requires.idle (c.in-Some.ensures.takes.idle (ap (λ (o : CrawlOptions). o.parallel) was.options ∙ p))) was c.in-Some.ensures.takes.takes c.in-Some.ensures.takes.number writes);
     }
 
 pub returns-clause-puts : goal.returns-clause-puts

@@ -27,7 +27,7 @@ returns g c =
     let name = name_all finishes.0 _ _ took ∙ c.fetch_urls-ended.ensures.same in
     let begun = at_same crawl [] [] first crawl.bytes (queue_given crawl) (queue_shown c.new-2.result) start (c.new-2.ensures.shown crawl.bytes) (at_first crawl start refl c.new.ensures.items refl refl) in
     let ends = ends_so g.N.Crawler.Crawler.crawled g.N.Crawler.Crawler.finished crawl first (output_shown mid.progress.now (sink mid.output.now) mid.output.ghost_name) (output_shown last.progress.now (sink last.output.now) last.output.ghost_name) _ _ finishes.0
-    (record { tally = last.progress.now.tally; fault = c.fault_of.result }) (c.fetch_urls-ended.ensures.fetches crawl first begun) finishes.1 took refl c.fault_of.ensures.line c.fault_of.ensures.whole c.fault_of.ensures.bad_url in
+    (record { tally = last.progress.now.tally; fault = c.fault_of.result }) (c.fetch_urls-ended.ensures.fetches crawl first begun) finishes.1 took refl c.fault_of.ensures.line c.fault_of.ensures.whole c.fault_of.ensures.failed_read c.fault_of.ensures.bad_url in
     record {
       crawls = subst (λ (w : g.row.W.Denot). Crawls g.N.Crawler.Crawler.crawled g.N.Crawler.Crawler.finished crawl first (sink w) (record { tally = last.progress.now.tally; fault = c.fault_of.result })) (sym (c.output-1.given.1 (sym name))) ends;
     }

@@ -8,7 +8,7 @@ pub loop-init : goal.loop-init
 loop-init g c = record {
   counts = c.requires.counts;
   reads = reads_none (queue_shown c.args.self.now) (queue_shown c.args.self.now) (g.R.Source.source c.args.input.now).bytes refl;
-  hosts = record { table = refl; awaited = refl };
+  hosts = record { table = refl; in_use = refl };
 }
 
 pub returns-then-not-branch-clause-reads : goal.returns-then-not-branch-clause-reads
@@ -21,5 +21,5 @@ loop-preserved g c = record {
   counts = c.in_ok-read_one.ensures.counts_on;
   reads = reads_then (queue_shown c.args.self.now) (queue_shown c.loop.self) (queue_shown c.read_one.new.self) (g.R.Source.source c.args.input.now).bytes (g.R.Source.source c.loop.input).bytes
       (g.R.Source.source c.read_one.new.input).bytes c.loop.invariant.reads c.in_ok-read_one.ensures.reads;
-  hosts = record { table = c.read_one.ensures.hosts.table ∙ c.loop.invariant.hosts.table; awaited = c.read_one.ensures.hosts.awaited ∙ c.loop.invariant.hosts.awaited };
+  hosts = record { table = c.read_one.ensures.hosts.table ∙ c.loop.invariant.hosts.table; in_use = c.read_one.ensures.hosts.in_use ∙ c.loop.invariant.hosts.in_use };
 }

@@ -16,7 +16,7 @@ returns-in-Some-clause-reads g c =
     let new = queue_shown c.add.new.self in
     let url = string_bytes c.in-Some.url in
     let first = first_left c.args.self.now.urls.items c.pop.new.self.items c.in-Some.url c.in-Some.ensures.items in
-    on_ok c.add.result (AddsUrl url mid new) (Reads old new source source) (λ adds. reads_word old mid new url source refl first refl refl refl adds) c.add.ensures.added
+    on_ok c.add.result (AddsUrl url mid new) (Reads old new source source) (λ adds. reads_word old mid new url source refl first refl refl refl refl adds) c.add.ensures.added
 
 pub returns-in-Ok-Url-clause-reads : goal.returns-in-Ok-Url-clause-reads
 returns-in-Ok-Url-clause-reads g c =

@@ -22,6 +22,7 @@ returns-clause-takes c =
         file = refl;
       };
       skips = search rules;
+      number = refl;
       idle = c.in_ok-place.ensures.idle;
       bad = bad_text one (subst (λ (q : Queued). q.route ≡ Bad) (sym c.in_ok-url.ensures.value) (c.in_ok-place.ensures.bad one));
     }
