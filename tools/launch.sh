@@ -1,21 +1,12 @@
 # Starts a program curlpool: launch PROGRAM WORD.. For ./curlpool and for an installed bin/curlpool, which source this.
 
-# True if a load has one of the options with which it watches for Ctrl-C.
-watches() {
-    for word in "$@"; do
-        case $word in
-            --url* | --resolve* | --connections* | --seconds* | --warmup* | --rate* | --timeout* | --fail* | --head | \
-                --forbid-reuse | --json | --quiet | --no-progress | --picture*) return 0 ;;
-        esac
-    done
-    return 1
-}
-# Runs such a load. The program's descriptor 3, as CURLPOOL_INTERRUPT says, is a pipe whose other end the first Ctrl-C
-# closes, so that the load ends with all its output. A second Ctrl-C ends the program at once.
+# Runs a load. The program's descriptor 3, as CURLPOOL_INTERRUPT says, is a pipe whose other end the first Ctrl-C
+# closes, so that the load ends with all its output. A second Ctrl-C ends the program at once, and so does the first if
+# there is no room for the pipe.
 load() {
-    room=$(mktemp -d)
-    mkfifo "$room/pipe"
-    exec 4<>"$room/pipe" 3<"$room/pipe" 5>"$room/pipe" 6<&0
+    room=$(mktemp -d 2>/dev/null) && mkfifo "$room/pipe" 2>/dev/null || exec "$program" "$@"
+    if (exec 6<&0) 2>/dev/null; then exec 6<&0; else exec 6</dev/null; fi
+    exec 4<>"$room/pipe" 3<"$room/pipe" 5>"$room/pipe"
     exec 4>&-
     rm -r "$room"
     (trap '' INT && CURLPOOL_INTERRUPT=3 exec "$program" "$@" <&6 5>&- 6<&-) &
@@ -30,11 +21,11 @@ load() {
     done
     return "$status"
 }
-# Runs the program with these words, in place of this shell unless it is such a load.
+# Runs the program with these words, in place of this shell unless it is a load.
 launch() {
     program=$1
     shift
-    if [ "${1-}" = load ] && watches "$@"; then
+    if [ "${1-}" = load ]; then
         load "$@"
     else
         exec "$program" "$@"

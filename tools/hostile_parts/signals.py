@@ -1,5 +1,5 @@
-"""A signal in the middle of a run: it ends at once, by that signal, and what was written stays; but Ctrl-C of a load with a
-time limit has all its output.
+"""A signal in the middle of a run: it ends at once, by that signal, and what was written stays; but a load that Ctrl-C
+ends has all its output.
 """
 import contextlib
 import json
@@ -124,9 +124,27 @@ def interrupted_load():
     return "its output is whole"
 
 
+def interrupted_plain_load():
+    """Ctrl-C ends a load of the six numbers with its report, and with nothing on standard error."""
+    words, delay = [*launched(curlpool()), "load", "--jobs", "10000", "--sites", "8", "--total", "1"], 0.2
+    for _ in range(TRIES):
+        with running(words, stdin=subprocess.DEVNULL) as run:
+            time.sleep(delay)
+            os.killpg(run.pid, signal.SIGINT)
+            output, errors = run.communicate(timeout=SECONDS)
+        if run.returncode == INTERRUPTED:
+            break
+        # the signal came too late, or before the launcher was ready
+        delay = delay / 2 if run.returncode == 0 else delay * 1.5
+    check_same((run.returncode, errors), (INTERRUPTED, b""), "the status, and standard error")
+    check_same([line.split()[0] for line in output.splitlines()], [b"host"] * 8 + [b"all", b"jobs"], "the report")
+    return "its report is whole"
+
+
 PARTS = [
     Part("signals: curlpool get", get),
     Part("signals: curlpool script", script),
     Part("signals: curlpool load", load),
     Part("signals: curlpool load with a time limit", interrupted_load),
+    Part("signals: curlpool load, ended by Ctrl-C", interrupted_plain_load),
 ]

@@ -88,15 +88,11 @@ def idle_for_long(max_age, count):
     """Gives a second URL 2.5 seconds after the first. Returns an error unless they open `count` connections."""
     with Server(servers.lasts) as server:
         words = [programs.curlpool(), "get", "--file", "-", "--max-age", max_age]
-        with subprocess.Popen(words, stdin=subprocess.PIPE, stdout=subprocess.PIPE, stderr=subprocess.PIPE, encoding="utf8",
-                              start_new_session=True) as run:
-            try:
-                run.stdin.write(url_of(server, 1) + "\n")
-                run.stdin.flush()
-                time.sleep(2.5)
-                output, errors = run.communicate(url_of(server, 2) + "\n", timeout=SECONDS)
-            finally:
-                programs.end(run)
+        with programs.running(words, stdin=subprocess.PIPE) as run:
+            run.stdin.write(url_of(server, 1) + "\n")
+            run.stdin.flush()
+            time.sleep(2.5)
+            output, errors = run.communicate(url_of(server, 2) + "\n", timeout=SECONDS)
         if run.returncode != 0 or server.accepted != count:
             return f"{server.accepted} connections in place of {count}; status {run.returncode}, {output!r}, {errors!r}"
     return None
@@ -168,6 +164,34 @@ def for_seconds():
     return None if run.status == 0 and 2 <= took < 20 else f"{took:.1f} seconds; {run}"
 
 
+
+def lines_of(trace, word):
+    """The number of lines of a trace that begin with that word."""
+    return sum(line.startswith(word + " ") for line in trace.splitlines())
+
+
+def traced():
+    """A trace is written while the load runs. It is lawful, and has each event of the report."""
+    with Server(servers.lasts) as one, Server(servers.lasts) as other, tempfile.TemporaryDirectory() as folder:
+        name = os.path.join(folder, "load.trace")
+        urls = [word for server in (one, other) for word in ("--url", url_of(server, 1))]
+        words = [programs.curlpool(), "load", *urls, "--seconds", "3", "--rate", "200", "--quiet", "--trace", name]
+        with programs.running(words) as run:
+            time.sleep(2)
+            early = os.path.getsize(name)
+            output, errors = run.communicate(timeout=SECONDS)
+        with open(name, encoding="utf8") as file:
+            trace = file.read()
+        audit = programs.run([programs.curlpool(), "audit", name])
+    if run.returncode != 0 or not 1_000 < early < len(trace):
+        return f"{early} bytes after two seconds, {len(trace)} in all; status {run.returncode}, {errors!r}"
+    said = [int(number) for number in output.splitlines()[2].split()[2:5]]
+    counted = [lines_of(trace, word) for word in ("opened", "leased", "closed")]
+    if said != counted or not audit.output.startswith("lawful: "):
+        return f"the report has {said}, the trace {counted}; {audit}"
+    return None
+
+
 def many_hosts():
     """More hosts than a cache has places: each has its URL."""
     names = [f"n{number}.invalid" for number in range(1, HOSTS + 1)]
@@ -218,3 +242,4 @@ def all_options():
     yield Delay("load --rate, at the server", paced)
     yield Delay("load --warmup, at the server", warmed_up)
     yield Delay("load --seconds, at the server", for_seconds)
+    yield Delay("load --trace, of URLs", traced)

@@ -41,9 +41,9 @@ def end(started):
 
 
 @contextlib.contextmanager
-def running(words, **others):
+def running(words, stdin=DEVNULL, **others):
     """Starts a command in a group of its own, and ends it with the block."""
-    started = subprocess.Popen(words, stdin=DEVNULL, stdout=PIPE, stderr=PIPE, encoding="utf8", errors="replace",
+    started = subprocess.Popen(words, stdin=stdin, stdout=PIPE, stderr=PIPE, encoding="utf8", errors="replace",
                                start_new_session=True, **others)
     try:
         yield started

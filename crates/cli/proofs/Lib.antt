@@ -2,7 +2,6 @@ pub mod CommandLines
 pub mod Plans
 pub mod GetRows
 pub mod LoadRows
-pub mod LoadPlans
 pub mod FlagRows
 pub mod LoadTraces
 pub mod LoadRefusals
@@ -13,3 +12,6 @@ pub mod OwnJobs
 pub mod Outcomes
 pub mod SitePlaces
 pub mod Resolves
+pub mod FirstNumbers
+pub mod LoadResults
+pub mod RunResults

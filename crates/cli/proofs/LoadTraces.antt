@@ -1,9 +1,11 @@
--- Why a trace is not written whole.
-use Rattle.std.proofs.Common.{ℕ, List, inr}
+-- Traces of loads: their hosts, and why they are not written whole.
+use Rattle.std.proofs.Common.{◌≡◌, ℕ, ◌+◌, List, [], ◌∷◌, ◌++◌, length, inr, arith}
 use Rattle.script_text.specs.declared.fault.FaultKind.{FaultKind}
 use Rattle.script_text.specs.declared.fault.FaultKind.TheVariants as kinds
 use Rattle.script_run.specs.Streams.{PutFails, Stream}
-use Rattle.cli.specs.LoadTraces.{TraceFails, fault_of}
+use Rattle.log_trace.specs.Uses.{AreUsesOf}
+use Rattle.log_trace.specs.declared.host_trace.HostTrace.{HostTrace}
+use Rattle.cli.specs.LoadTraces.{AreNewHosts, TraceFails, fault_of}
 
 -- why the bytes were not put is why the trace was not written
 pub put-failed : (old new : Stream) (bytes : List ℕ) (kind : FaultKind) → PutFails old new bytes kind → TraceFails bytes old new (fault_of kind)
@@ -18,3 +20,8 @@ put-failed old new bytes kinds.Place fails = absurd fails
 put-failed old new bytes kinds.BadLimits fails = absurd fails
 put-failed old new bytes kinds.BadSite fails = absurd fails
 put-failed old new bytes kinds.TooManySites fails = absurd fails
+
+-- one more host without entries
+pub new_hosts_more : (index : ℕ) (hosts : List HostTrace) (host : HostTrace) → AreNewHosts index hosts → host.host ≡ index + length hosts → AreUsesOf [] host.uses → AreNewHosts index (hosts ++ host ∷ [])
+new_hosts_more index [] host so_far at unused = (omega (arith, at), unused, tt)
+new_hosts_more index (h ∷ hosts) host so_far at unused = (so_far.0, so_far.1, new_hosts_more (index + 1) hosts host so_far.2 (omega (arith, at)) unused)

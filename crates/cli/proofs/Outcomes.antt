@@ -1,20 +1,20 @@
--- Outcomes of loads of many jobs at once.
-use Rattle.std.proofs.Common.{◌≡◌, ◌⊎◌, ℕ, Bool, List, [], length, refl, inl, inr, Result, Ok, Err}
+-- Outcomes of loads.
+use Rattle.std.proofs.Common.{◌≡◌, ◌⊎◌, ℕ, List, [], length, refl, inl, inr, Result, Ok, Err}
 use Rattle.std.specs.Prelude.{◌≢◌, IfOk}
 use Rattle.exchange.specs.Worlds.{World}
-use Rattle.cli.specs.MeasuredLoads.{AddsOwn, HasOutcome, IsUnknownHost, ReportsMany}
-use Rattle.cli.specs.declared.loading.measured.plan.MeasuredPlan.{MeasuredPlan}
-use Rattle.cli.specs.declared.loading.options.LoadOptions.{LoadOptions}
+use Rattle.cli.specs.LoadJobs.{AsksOwn}
+use Rattle.cli.specs.LoadRuns.{IsUnknownHost, ReportsLoad, ReportsRun}
 use Rattle.cli.specs.declared.loading.outcome.LoadOutcome.{LoadOutcome}
+use Rattle.cli.specs.declared.loading.plan.LoadPlan.{LoadPlan}
 
-module _ {W E : Type 0} (world : World W) (options : LoadOptions) (keeps : Bool) where
+module _ {W E : Type 0} (world : World W) where
   -- a load of the plan's URLs
-  pub of_urls : (plan : MeasuredPlan) (r : Result LoadOutcome E) → plan.urls.items ≢ [] → IfOk r (λ outcome. IsUnknownHost plan outcome ⊎ ReportsMany world options plan keeps outcome) → IfOk r (HasOutcome world options plan keeps)
+  pub of_urls : (plan : LoadPlan) (r : Result LoadOutcome E) → plan.urls.items ≢ [] → IfOk r (λ outcome. IsUnknownHost plan outcome ⊎ ReportsRun world plan outcome) → IfOk r (ReportsLoad world plan)
   of_urls plan (Ok outcome) some ended = record { used = plan; used_is = inl (some, refl); ended = ended }
   of_urls plan (Err failure) some ended = tt
 
-  -- a load without URLs, which requests the server of the load
-  pub of_own : (given used : MeasuredPlan) (ports : List ℕ) (r : Result LoadOutcome E) → given.urls.items ≡ [] → length ports ≡ options.sites → AddsOwn ports given used → IfOk r (λ outcome. IsUnknownHost used outcome ⊎ ReportsMany world options used keeps outcome)
-      → IfOk r (HasOutcome world options given keeps)
-  of_own given used ports (Ok outcome) none count adds ended = record { used = used; used_is = inr (none, ports, count, adds); ended = ended }
-  of_own given used ports (Err failure) none count adds ended = tt
+  -- a load without URLs, which requests its own server
+  pub of_own : (given used : LoadPlan) (ports : List ℕ) (r : Result LoadOutcome E) → given.urls.items ≡ [] → length ports ≡ given.options.sites → AsksOwn ports given used → IfOk r (λ outcome. IsUnknownHost used outcome ⊎ ReportsRun world used outcome)
+      → IfOk r (ReportsLoad world given)
+  of_own given used ports (Ok outcome) none count asks ended = record { used = used; used_is = inr (none, ports, count, asks); ended = ended }
+  of_own given used ports (Err failure) none count asks ended = tt

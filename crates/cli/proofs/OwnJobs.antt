@@ -1,37 +1,45 @@
--- The jobs of a load's own server, one after another.
-use Rattle.std.proofs.Common.{◌≡◌, ◌∙◌, ℕ, ◌+◌, List, [], ◌∷◌, ◌++◌, ◌<◌, length, take, get_or, ap, subst, arith, append_assoc, append-nil, sym, refl}
-use Rattle.std.proofs.lemmas.List.{length-take, take_more}
+-- The requests and URLs of a load's own server that are made so far.
+use Rattle.std.proofs.Common.{◌≡◌, ◌⊎◌, inl, inr, ◌∙◌, ◌<◌, ◌≤◌, ℕ, ◌+◌, ◌%◌, max, min, List, [], ◌∷◌, ◌++◌, ap, get_or, length, map, subst, sym, take, arith}
+use Rattle.std.proofs.Math.Nat.{mod-eq_of_lt}
+use Rattle.std.proofs.lemmas.List.{map-append, take_more}
+use Rattle.std.proofs.lemmas.Nat.{mod_below}
 use Rattle.exchange.specs.declared.job.Job.{Job}
-use Rattle.cli.specs.MeasuredLoads.{AddsOwn, AreOwnJobs, IsOwnJob}
-use Rattle.cli.specs.declared.loading.measured.plan.MeasuredFlags.{MeasuredFlags}
-use Rattle.cli.specs.declared.loading.measured.plan.MeasuredPlan.{MeasuredPlan}
+use Rattle.cli.specs.LoadJobs.{AreOwnJobs, IsOwnJob, own_url}
+use Rattle.cli.specs.LoadSites.{AreNumbered}
+use Rattle.cli.specs.declared.loading.plan.MeasuredFlags.{MeasuredFlags}
 
-own_jobs_more : (flags : MeasuredFlags) (site : ℕ) (ports : List ℕ) (jobs : List Job) (port : ℕ) (job : Job) → AreOwnJobs flags site ports jobs → IsOwnJob flags (site + length ports) port job → AreOwnJobs flags site (ports ++ port ∷ []) (jobs ++ job ∷ [])
-own_jobs_more flags site [] [] port job so_far one = (subst (λ n. IsOwnJob flags n port job) (omega arith) one, tt)
-own_jobs_more flags site [] (j ∷ jobs) port job so_far one = absurd so_far
-own_jobs_more flags site (p ∷ ports) [] port job so_far one = absurd so_far
-own_jobs_more flags site (p ∷ ports) (j ∷ jobs) port job so_far one =
-    (so_far.0, own_jobs_more flags (site + 1) ports jobs port job so_far.1 (subst (λ n. IsOwnJob flags n port job) (omega arith) one))
+-- one more request
+pub own_jobs_more : (flags : MeasuredFlags) (ports : List ℕ) (number : ℕ) (jobs : List Job) (job : Job) → AreOwnJobs flags ports number jobs → IsOwnJob flags ports (number + length jobs) job → AreOwnJobs flags ports number (jobs ++ job ∷ [])
+own_jobs_more flags ports number [] job so_far one = (subst (λ n. IsOwnJob flags ports n job) (omega arith) one, tt)
+own_jobs_more flags ports number (j ∷ jobs) job so_far one =
+    (so_far.0, own_jobs_more flags ports (number + 1) jobs job so_far.1 (subst (λ n. IsOwnJob flags ports n job) (omega arith) one))
 
--- no job was added
-pub adds_none : (plan : MeasuredPlan) → AddsOwn [] plan plan
-adds_none plan = record { numbers = refl; flags = refl; resolved = refl; own = []; jobs = sym (append-nil plan.jobs.items); are_own = tt }
+-- one more URL
+pub own_urls_more : (ports : List ℕ) (place : ℕ) (urls more : List (List ℕ)) (url : List ℕ) → place < length ports → urls ≡ map own_url (take place ports) → more ≡ urls ++ url ∷ [] → url ≡ own_url (get_or ports place 0) → more ≡ map own_url (take (place + 1) ports)
+own_urls_more ports place urls more url below so_far added its =
+    added
+    ∙ ap (λ (l : List (List ℕ)). l ++ url ∷ []) so_far
+    ∙ ap (λ (u : List ℕ). map own_url (take place ports) ++ u ∷ []) its
+    ∙ sym (map-append own_url (take place ports) (get_or ports place 0 ∷ []))
+    ∙ ap (map own_url) (sym (take_more ports place 0 below))
 
--- one more was
-pub adds_one : (ports : List ℕ) (site port : ℕ) (old mid new : MeasuredPlan) (job : Job) → AddsOwn ports old mid → new.numbers ≡ mid.numbers → new.flags ≡ mid.flags → new.resolved.items ≡ mid.resolved.items
-    → new.jobs.items ≡ mid.jobs.items ++ job ∷ [] → site ≡ length ports → IsOwnJob mid.flags site port job → AddsOwn (ports ++ port ∷ []) old new
-adds_one ports site port old mid new job a numbers flags resolved jobs at one = record {
-  numbers = numbers ∙ a.numbers;
-  flags = flags ∙ a.flags;
-  resolved = resolved ∙ a.resolved;
-  own = a.own ++ job ∷ [];
-  jobs = jobs ∙ ap (λ l. l ++ job ∷ []) a.jobs ∙ append_assoc old.jobs.items a.own (job ∷ []);
-  are_own = own_jobs_more old.flags 0 ports a.own port job a.are_own (subst (λ (f : MeasuredFlags). IsOwnJob f (0 + length ports) port job) a.flags (subst (λ n. IsOwnJob mid.flags n port job) (omega (arith, at)) one));
-}
+-- the sites of these requests are numbered
+next_own : (number count : ℕ) → 0 < count → (number % count ≤ min number count) × (max (min number count) (number % count + 1) ≡ min (number + 1) count)
+next_own number count some = by_order (order number count)
+  where
+    order : (n m : ℕ) → (n < m) ⊎ (m ≤ n)
+    order n m = search arith
 
--- the job of the port at a place was
-pub adds_at : (ports : List ℕ) (place site : ℕ) (old mid new : MeasuredPlan) (job : Job) → place < length ports → AddsOwn (take place ports) old mid → new.numbers ≡ mid.numbers → new.flags ≡ mid.flags → new.resolved.items ≡ mid.resolved.items
-    → new.jobs.items ≡ mid.jobs.items ++ job ∷ [] → site ≡ place → IsOwnJob mid.flags site (get_or ports place 0) job → AddsOwn (take (place + 1) ports) old new
-adds_at ports place site old mid new job below a numbers flags resolved jobs at one =
-    subst (λ (l : List ℕ). AddsOwn l old new) (sym (take_more ports place 0 below))
-    (adds_one (take place ports) site (get_or ports place 0) old mid new job a numbers flags resolved jobs (omega (arith, at, length-take place ports, below)) one)
+    by_order : (number < count) ⊎ (count ≤ number) → (number % count ≤ min number count) × (max (min number count) (number % count + 1) ≡ min (number + 1) count)
+    by_order (inl below) = let same = mod-eq_of_lt below in (omega (arith, below, same), omega (arith, below, same))
+    by_order (inr past) = let least = mod_below number count some in (omega (arith, past, least), omega (arith, past, least))
+
+pub own_numbered : (flags : MeasuredFlags) (ports : List ℕ) (number : ℕ) (jobs : List Job) → 0 < length ports → AreOwnJobs flags ports number jobs → AreNumbered (min number (length ports)) jobs
+own_numbered flags ports number [] some are = tt
+own_numbered flags ports number (job ∷ jobs) some are =
+    let count = length ports in
+    let at : job.site ≡ number % count = ap (λ (j : Job). j.site) are.0.is_job in
+    let next = next_own number count some in (
+      subst (λ n. n ≤ min number count) (sym at) next.0,
+      subst (λ n. AreNumbered n jobs) (sym (ap (λ n. max (min number count) (n + 1)) at ∙ next.1)) (own_numbered flags ports (number + 1) jobs some are.1),
+    )

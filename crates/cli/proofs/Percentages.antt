@@ -1,5 +1,5 @@
 -- What the decimals of a percentage say.
-use Rattle.std.proofs.Common.{◌≡◌, ℕ, ◌^◌, ◌*◌, ◌<◌, Bool, true, false, cond, List, [], ◌∷◌, length, refl, ap, sym, ◌∙◌, arith, Option, Some, None}
+use Rattle.std.proofs.Common.{◌≡◌, ℕ, ◌^◌, ◌*◌, ◌<◌, Bool, true, false, cond, List, [], ◌∷◌, length, refl, ap, sym, ◌∙◌, arith, Some, None}
 use Rattle.std.specs.Prelude.{◌&&◌, nat_lt, min}
 use Rattle.std.specs.List.{list_all}
 use Rattle.std.specs.Char.{is_ascii_digit}
@@ -7,7 +7,7 @@ use Rattle.std.specs.Str.{all_ascii_digits}
 use Rattle.std.specs.Str.Parse.{digits_value}
 use Rattle.std.proofs.lemmas.Str.Parse.{IsNumeralModel, digits_value_short, numerals_by_value, tells_all_ascii_digits}
 use Rattle.script_text.specs.Words.{number, if_below, has_bytes}
-use Rattle.cli.specs.MeasuredPlan.{decimals_in}
+use Rattle.cli.specs.LoadRequests.{decimals_in}
 
 same-digits : (text : List ℕ) → list_all is_ascii_digit text ≡ all_ascii_digits text
 same-digits [] = refl

@@ -3,9 +3,9 @@ use Rattle.std.proofs.Common.{◌≡◌, ◌<◌, ℕ, List, ◌⊎◌, length, 
 use Rattle.std.specs.Prelude.{IfOk}
 use Rattle.client.specs.declared.resolved.Resolved.{Resolved}
 use Rattle.exchange.specs.declared.job.Job.{Job}
-use Rattle.cli.specs.MeasuredSites.{IsUnknownAt, IsUnknownIn}
-use Rattle.cli.specs.declared.loading.measured.sites.SiteFault.{SiteFault}
-use Rattle.cli.specs.declared.loading.measured.sites.SiteFault.TheVariants.{Memory, Unknown}
+use Rattle.cli.specs.LoadSites.{IsUnknownAt, IsUnknownIn}
+use Rattle.cli.specs.declared.loading.sites.SiteFault.{SiteFault}
+use Rattle.cli.specs.declared.loading.sites.SiteFault.TheVariants.{Memory, Unknown}
 
 pub if_ok_left : {A E : Type 0} (r : Result A E) (P Q : A → Type 0) → IfOk r P → IfOk r (λ a. P a ⊎ Q a)
 if_ok_left (Ok a) P Q holds = inl holds

@@ -1,20 +1,22 @@
 -- What jobs of URLs are made so far.
-use Rattle.std.proofs.Common.{◌≡◌, ℕ, ◌<◌, ◌≤◌, List, [], ◌∷◌, ◌++◌, length, get_or, map, refl, ap, sym, ◌∙◌, subst, arith, inl, inr, string_bytes}
-use Rattle.std.specs.Prelude.{String}
+use Rattle.std.proofs.Common.{◌≡◌, ℕ, ◌+◌, ◌<◌, ◌≤◌, max, Option, Some, None, List, [], ◌∷◌, ◌++◌, length, get_or, map, refl, ap, sym, ◌∙◌, subst, arith, inl, inr, string_bytes}
+use Rattle.std.specs.Prelude.{String, is_some, unwrap_or, if◌then◌else◌}
 use Rattle.std.specs.Global.{Global}
 use Rattle.std.proofs.lemmas.List.{length-append, length-map, get_or-map}
+use Rattle.std.proofs.lemmas.List.Quantifiers.{position-Some}
 use Rattle.clap.specs.Words.{Text}
 use Rattle.clap.specs.declared.error.Error.{Error}
-use Rattle.conn_key.specs.Site.{site_of}
-use Rattle.conn_key.specs.Sites.{index_or_next, with_site}
+use Rattle.conn_key.specs.Site.{is_same_site, site_of}
+use Rattle.conn_key.specs.Sites.{index_of, index_or_next, with_site}
 use Rattle.conn_key.specs.Target.{GivesTarget}
 use Rattle.conn_key.specs.declared.site.Site.{Site}
 use Rattle.conn_key.specs.declared.target.Target.{Target}
 use Rattle.exchange.specs.declared.job.Job.{Job}
 use Rattle.client.specs.Urls.{IsBadUrl, IsPrintable}
 use Rattle.cli.specs.LoadWords.{IsWhyNot}
-use Rattle.cli.specs.MeasuredPlan.{AreBadUrls, AreUrlJobs, IsUrlJob, url_job}
-use Rattle.cli.specs.declared.loading.measured.plan.MeasuredFlags.{MeasuredFlags}
+use Rattle.cli.specs.LoadRequests.{AreBadUrls, ArePlannedUrls, AreUrlJobs, IsUrlJob, url_job}
+use Rattle.cli.specs.LoadSites.{AreNumbered}
+use Rattle.cli.specs.declared.loading.plan.MeasuredFlags.{MeasuredFlags}
 
 -- the sites after these, with those of the jobs
 abbrev pub sites_with : List Site → List Job → List Site
@@ -73,3 +75,28 @@ pub bad-among : (urls : List (String Global)) (k : ℕ) (url : String Global) (e
 bad-among urls k url error below at (inl lacks) = inl lacks
 bad-among urls k url error below at (inr (is, bad)) =
     inr (is, inr (k, string_bytes url, subst (λ n. k < n) (sym (length-map urls string_bytes)) below, get_or-map string_bytes urls k url (string_bytes url) below ∙ ap string_bytes (sym at), bad))
+
+-- the sites of URLs are numbered
+next_site : (sites : List Site) (site : Site) → (index_or_next sites site ≤ length sites) × (max (length sites) (index_or_next sites site + 1) ≡ length (with_site sites site))
+next_site sites site = by_index (index_of sites site) refl
+  where
+    by_index : (found : Option ℕ) → index_of sites site ≡ found
+        → (unwrap_or found (length sites) ≤ length sites) × (max (length sites) (unwrap_or found (length sites) + 1) ≡ length (if is_some found then sites else sites ++ site ∷ []))
+    by_index (Some index) is =
+        let below = (position-Some (is_same_site site) sites index site is).0 in
+        (omega (arith, below), omega (arith, below))
+    by_index None is = (omega arith, omega (arith, length-append sites (site ∷ [])))
+
+pub urls_numbered : (flags : MeasuredFlags) (sites : List Site) (urls : List Text) (jobs : List Job) → AreUrlJobs flags sites urls jobs → AreNumbered (length sites) jobs
+urls_numbered flags sites [] [] are = tt
+urls_numbered flags sites [] (job ∷ jobs) are = absurd are
+urls_numbered flags sites (url ∷ urls) [] are = absurd are
+urls_numbered flags sites (url ∷ urls) (job ∷ jobs) are =
+    let at : job.site ≡ index_or_next sites (site_of job.target) = ap (λ (j : Job). j.site) are.0.is_job in
+    let next = next_site sites (site_of job.target) in (
+      subst (λ n. n ≤ length sites) (sym at) next.0,
+      subst (λ n. AreNumbered n jobs) (sym (ap (λ n. max (length sites) (n + 1)) at ∙ next.1)) (urls_numbered flags (with_site sites (site_of job.target)) urls jobs are.1),
+    )
+
+pub planned_numbered : (flags : MeasuredFlags) (urls : List Text) (jobs : List Job) → ArePlannedUrls flags urls jobs → AreNumbered 0 jobs
+planned_numbered flags urls jobs planned = urls_numbered flags [] urls jobs planned.are_jobs

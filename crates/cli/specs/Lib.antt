@@ -11,12 +11,11 @@ pub mod LoadWords
 pub mod LoadJobs
 pub mod Loading
 pub mod CommandLine
-pub mod SystemLoads
 pub mod LoadTraces
 pub mod MeasuredWords
 pub mod Resolving
-pub mod MeasuredPlan
+pub mod LoadRequests
 pub mod LoadPlan
 pub mod LoadStatuses
-pub mod MeasuredSites
-pub mod MeasuredLoads
+pub mod LoadSites
+pub mod LoadRuns

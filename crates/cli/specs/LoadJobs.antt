@@ -1,25 +1,43 @@
--- The jobs of a load.
-use Rattle.std.specs.Prelude.{◌≡◌, ◌+◌, ◌%◌, ◌++◌, ℕ, false, codes, List, [], ◌∷◌, length, string_bytes, slice_index}
+-- The requests of a load without URLs.
+use Rattle.std.specs.Prelude.{◌≡◌, ◌+◌, ◌%◌, ◌++◌, ℕ, codes, List, [], ◌∷◌, length, map, max, string_bytes, slice_index, Option, Some, None}
 use Rattle.std.specs.Fmt.{decimal}
-use Rattle.persistence.specs.declared.method.Method.TheVariants.{Get}
 use Rattle.exchange.specs.declared.job.Job.{Job}
-use Rattle.conn_log.specs.declared.entry.Want.{Want}
+use Rattle.cli.specs.LoadRequests.{url_job}
+use Rattle.cli.specs.declared.loading.options.LoadOptions.{LoadOptions}
+use Rattle.cli.specs.declared.loading.plan.LoadPlan.{LoadPlan}
+use Rattle.cli.specs.declared.loading.plan.MeasuredFlags.{MeasuredFlags}
 
--- the transfer with that number reuses a connection of any age that was idle for at most `max_age` seconds
-abbrev pub want_said : ℕ → ℕ → Want
-want_said number max_age = record { transfer = number; max_age = max_age; max_life = 0; lane = 0; fresh = false; forbid_reuse = false }
-
--- job k is transfer k, which asks for the path /k of the site that is k modulo their number, on this machine, at the site's
--- port; it reuses a connection that was idle for at most 118 seconds, whatever its age
-pub record IsLoadJob (ports : List ℕ) (number : ℕ) (job : Job) : Type 0 where
-  pub site : job.site ≡ number % length ports
-  pub want : job.want ≡ want_said number 118
-  pub method : job.method ≡ Get
+-- request K is for the path /K at site K modulo the number of sites, on the site's port of 127.0.0.1
+pub record IsOwnJob (flags : MeasuredFlags) (ports : List ℕ) (number : ℕ) (job : Job) : Type 0 where
+  pub is_job : job ≡ url_job flags (number % length ports) job.target
   pub host : string_bytes job.target.host ≡ codes "127.0.0.1"
   pub port : job.target.port ≡ slice_index ports (number % length ports)
   pub path : string_bytes job.target.path ≡ codes "/" ++ decimal number
 
--- jobs with numbers from that one on
-abbrev pub AreLoadJobs : List ℕ → ℕ → List Job → Type 0
-AreLoadJobs ports number [] = Unit {0}
-AreLoadJobs ports number (job ∷ jobs) = IsLoadJob ports number job × AreLoadJobs ports (number + 1) jobs
+-- requests with consecutive numbers, the first of which is `number`
+abbrev pub AreOwnJobs : MeasuredFlags → List ℕ → ℕ → List Job → Type 0
+AreOwnJobs flags ports number [] = Unit {0}
+AreOwnJobs flags ports number (job ∷ jobs) = IsOwnJob flags ports number job × AreOwnJobs flags ports (number + 1) jobs
+
+-- the number of requests in the plan: one for each site with `--seconds`; otherwise one for each job, and at least one
+-- for each site
+abbrev pub own_count : LoadOptions → Option ℕ → ℕ
+own_count options (Some seconds) = options.sites
+own_count options None = max options.jobs options.sites
+
+-- the URL of the site on that port
+abbrev pub own_url : ℕ → List ℕ
+own_url port = codes "http://127.0.0.1:" ++ (decimal port ++ codes "/")
+
+-- requests and URLs of the load's own server, on these ports, are added to a plan without URLs
+pub record AsksOwn (ports : List ℕ) (old new : LoadPlan) : Type 0 where
+  pub options : new.options ≡ old.options
+  pub numbers : new.numbers ≡ old.numbers
+  pub flags : new.flags ≡ old.flags
+  pub resolved : new.resolved ≡ old.resolved
+  pub trace : new.trace ≡ old.trace
+  pub picture : new.picture ≡ old.picture
+  pub plain : new.is_plain ≡ old.is_plain
+  pub urls : map string_bytes new.urls.items ≡ map own_url ports
+  pub are_own : AreOwnJobs old.flags ports 0 new.jobs.items
+  pub count : length new.jobs.items ≡ own_count old.options old.numbers.seconds

@@ -1,25 +1,31 @@
--- What the words after `load` ask for, and when they are refused.
-use Rattle.std.specs.Prelude.{◌≡◌, ◌⊎◌, ◌&&◌, ◌||◌, Bool, true, false, is_some, string_bytes}
+-- The plan for the words after `load`, and the words that are refused.
+use Rattle.std.specs.Prelude.{◌≡◌, ◌⊎◌, ◌&&◌, ◌||◌, Bool, true, false, not, is_some, map, string_bytes}
 use Rattle.std.specs.Option.{option_map}
 use Rattle.cli.specs.LoadWords.{IsLoadOf, IsNumberRefused, LoadSaid}
-use Rattle.cli.specs.MeasuredPlan.{IsMeasuredOf, IsMeasuredRefused}
-use Rattle.cli.specs.MeasuredWords.{has_any}
+use Rattle.cli.specs.LoadRequests.{AreNumbersOf, ArePlannedUrls, IsMeasuredRefused, flags_said}
+use Rattle.cli.specs.MeasuredWords.{asks_measured, has_any}
+use Rattle.cli.specs.Resolving.{AreResolved}
 use Rattle.cli.specs.declared.loading.plan.LoadPlan.{LoadPlan}
 
--- two options are given that do not go together: URLs with a number of sites or a file of a trace, or seconds with a number
--- of jobs
+-- two options exclude each other: `--url` and `--sites`, or `--seconds` and `--jobs`
 abbrev pub has_conflict : LoadSaid → Bool
-has_conflict said =
-    (has_any said.measured.urls && (is_some said.sites || is_some said.trace))
-    || (is_some said.measured.seconds && is_some said.jobs)
+has_conflict said = (has_any said.measured.urls && is_some said.sites) || (is_some said.measured.seconds && is_some said.jobs)
 
--- a load with these numbers, whose trace is written to that file, and which is measured if words for that are given
+-- the plan of a load has the numbers, flags, URLs and files of the words, a request for each URL, and the addresses of
+-- `--resolve`; it is plain if the words have no options but the six numbers and the trace's file
 pub record IsLoadPlanOf (said : LoadSaid) (plan : LoadPlan) : Type 0 where
   pub options_said : IsLoadOf said plan.options
   pub agree : has_conflict said ≡ false
+  pub numbers_said : AreNumbersOf said.measured plan.numbers
+  pub flags_are : plan.flags ≡ flags_said said.measured
+  pub urls_said : map string_bytes plan.urls.items ≡ said.measured.urls
+  pub jobs_said : ArePlannedUrls plan.flags said.measured.urls plan.jobs.items
+  pub hosts_said : AreResolved said.measured.resolve plan.resolved.items
   pub trace_said : option_map string_bytes plan.trace ≡ said.trace
-  pub measured_said : IsMeasuredOf said.measured plan.measured
+  pub picture_said : option_map string_bytes plan.picture ≡ said.measured.picture
+  pub plain_is : plan.is_plain ≡ not (asks_measured said.measured)
 
--- one of the six numbers is refused, two options do not go together, or a word of a measured load is refused
+-- one of the six numbers is refused, two options do not go together, another number is outside its range, there are too
+-- many URLs or a bad one, or a value of `--resolve` gives no address
 abbrev pub IsLoadRefused : LoadSaid → Type 0
 IsLoadRefused said = IsNumberRefused said ⊎ ((has_conflict said ≡ true) ⊎ IsMeasuredRefused said.measured)

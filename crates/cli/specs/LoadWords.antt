@@ -1,5 +1,5 @@
 -- What the words after `load` say, and when their numbers are refused.
-use Rattle.std.specs.Prelude.{◌≡◌, ◌⊎◌, ◌^◌, ◌&&◌, not, is_some, ℕ, nat_le, codes, List, string_bytes, Option, None, Some, if◌then◌else◌}
+use Rattle.std.specs.Prelude.{◌≡◌, ◌⊎◌, ◌^◌, ◌&&◌, is_some, ℕ, nat_le, codes, List, string_bytes, Option, None, Some, if◌then◌else◌}
 use Rattle.std.specs.Option.{option_and_then, option_map}
 use Rattle.clap.specs.Words.{Row, Text, kind_of}
 use Rattle.clap.specs.Walk.{first_of}
@@ -7,7 +7,7 @@ use Rattle.clap.specs.declared.error.Error.{Error}
 use Rattle.clap.specs.declared.error.kind.ErrorKind.TheVariants.{OutOfMemory, ValueValidation}
 use Rattle.script_text.specs.Words.{number}
 use Rattle.cli.specs.LoadRanges.{connects_for, connects_range, jobs_range, limit_range, many_jobs_range, sites_range, workers_range}
-use Rattle.cli.specs.MeasuredWords.{MeasuredSaid, asks_measured, is_long, measured_said_by, measured_said_in}
+use Rattle.cli.specs.MeasuredWords.{MeasuredSaid, is_long, measured_said_by, measured_said_in}
 use Rattle.cli.specs.declared.loading.options.LoadOptions.{LoadOptions}
 use Rattle.cli.specs.declared.loading.range.NumberRange.{NumberRange}
 use Rattle.cli.specs.declared.loading.words.LoadWords.{LoadWords}
@@ -69,12 +69,12 @@ IsOutside range (Some text) = number_in range text ≡ None
 abbrev pub jobs_range_for : MeasuredSaid → NumberRange
 jobs_range_for measured = if is_long measured then many_jobs_range else jobs_range
 
--- how many connections are kept, where no number is given
+-- the default number of idle connections: 65,535 with `--seconds`, otherwise the number for the jobs
 abbrev pub kept_for : LoadSaid → ℕ → ℕ
-kept_for said jobs = if asks_measured said.measured && not (is_some said.jobs) then 65535 else connects_for jobs
+kept_for said jobs = if is_some said.measured.seconds then 65535 else connects_for jobs
 
--- the numbers that the words give; and where they give none, 2 sites, 20 jobs, 4 workers, no limits, and as many kept as
--- are right for the jobs
+-- the numbers that the words give; and where they give none, 2 sites, 20 jobs, 4 workers, no limits, and as many kept
+-- as are right for the jobs
 pub record IsLoadOf (said : LoadSaid) (options : LoadOptions) : Type 0 where
   pub sites_said : number_said sites_range 2 said.sites ≡ Some options.sites
   pub jobs_said : number_said (jobs_range_for said.measured) 20 said.jobs ≡ Some options.jobs

@@ -6,19 +6,25 @@ ghost use Rattle.script_run.specs.Streams.{CanCount};
 
 pub(crate) mod failure;
 pub(crate) mod fault;
+pub(crate) mod files;
 pub(crate) mod interrupt;
 pub(crate) mod measured;
 pub(crate) mod numbers;
 pub(crate) mod options;
 pub(crate) mod outcome;
+pub(crate) mod own_server;
 pub(crate) mod plan;
 pub(crate) mod planning;
 pub(crate) mod progress;
 pub(crate) mod range;
+pub(crate) mod report;
+pub(crate) mod running;
+pub(crate) mod sites;
 pub(crate) mod subcommand;
 pub(crate) mod system;
+pub(crate) mod targets;
 pub(crate) mod tracing;
-pub(crate) mod want;
+pub(crate) mod watch;
 pub(crate) mod words;
 
 use failure::LoadFailure;

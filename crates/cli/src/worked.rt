@@ -9,7 +9,7 @@ ghost use Rattle.cli.specs.CommandLine.{TakesUrls, TakesCrawl, RefusesTwice};
 ghost use Rattle.cli.specs.CommandLine.{TakesNumbers, WantsNumber, RefusesNumberTwice};
 ghost use Rattle.cli.specs.CommandLine.{TakesMeasured};
 ghost use Rattle.cli.specs.CommandLine.{TakesTrace, RefusesFlagTwice, TakesTraceFlag, TakesPicture};
-ghost use Rattle.cli.specs.MeasuredPlan.{ReadsPercentages, RefusesPercentages};
+ghost use Rattle.cli.specs.LoadRequests.{ReadsPercentages, RefusesPercentages};
 ghost use Rattle.cli.specs.Resolving.{ReadsResolves, RefusesResolves};
 
 /// What is wrong with small command lines, by computation: with `script` alone, or a file after it,

@@ -24,6 +24,8 @@ mod loads;
 #[cfg(test)]
 mod machine;
 #[cfg(test)]
+mod name_threads;
+#[cfg(test)]
 mod networks;
 #[cfg(test)]
 mod running;

@@ -1,13 +1,11 @@
 //! The numbers of a load, its jobs, and what the program writes of it.
 
-use crate::checks::check_eq;
 use crate::loads::FakeLoader;
 use crate::networks::FakeNetwork;
 use crate::running::{ROW, Row, Text, check, check_stopped, run, words_of};
-use cli::{LoadFault, load_jobs};
+use cli::LoadFault;
 use driver::DriverFault;
 use load_run::LoadError;
-use persistence::Method;
 
 /// Words, and the numbers that a load is given: sites, jobs, workers, the limit of a host, of the
 /// total, and how many are kept.
@@ -51,11 +49,12 @@ fn words_give_numbers(rt: HostRuntime) {
 }
 
 /// Words, and the file that the trace of a load is written to.
-static TRACES: [(&str, Option<&str>); 4] = [
+static TRACES: [(&str, Option<&str>); 5] = [
     ("load", None),
     ("load --trace a.trace", Some("a.trace")),
     ("load --trace=- --sites 3", Some("-")),
     ("load --total 1 --trace trace", Some("trace")),
+    ("load --url http://a/ --trace a.trace", Some("a.trace")),
 ];
 
 #[test]
@@ -68,7 +67,8 @@ fn words_give_a_file(rt: HostRuntime) {
             ..ROW
         };
         let (_, loader) = check(&rt, &row);
-        let named = loader.trace.as_ref().map(|name| name.as_str());
+        let plan = loader.plan.as_ref().expect(&rt, "a plan");
+        let named = plan.trace.as_ref().map(|name| name.as_str());
         assert_eq!(rt; named, *trace, "{words}");
     }
 }
@@ -134,38 +134,6 @@ fn a_report_that_cannot_be_written(rt: HostRuntime) {
     }
 }
 
-/// The jobs of a load over three sites: site, port and path.
-static JOBS: [(u32, u16, &str); 11] = [
-    (0, 8001, "/0"),
-    (1, 65_535, "/1"),
-    (2, 1, "/2"),
-    (0, 8001, "/3"),
-    (1, 65_535, "/4"),
-    (2, 1, "/5"),
-    (0, 8001, "/6"),
-    (1, 65_535, "/7"),
-    (2, 1, "/8"),
-    (0, 8001, "/9"),
-    (1, 65_535, "/10"),
-];
-
-#[test]
-fn jobs_go_round_the_sites(rt: HostRuntime) {
-    let ports: [u16; 3] = [8001, 65_535, 1];
-    let jobs = load_jobs(rt.alloc(), 11, ports.as_slice()).expect(&rt, "memory");
-    check_eq(&rt, jobs.len(), 11);
-    let mut number: u64 = 0;
-    for (job, &(site, port, path)) in jobs.iter().zip(JOBS.iter()) {
-        let (target, want) = (&job.target, &job.want);
-        assert!(rt; target.path.as_str() == path && target.host.as_str() == "127.0.0.1");
-        assert!(rt; job.method == Method::Get && !want.fresh && !want.forbid_reuse);
-        check_eq(&rt, (job.site, target.port), (site, port));
-        check_eq(&rt, (want.transfer, want.max_age), (number, 118));
-        check_eq(&rt, (want.max_life, want.lane), (0, 0));
-        number = number.saturating_add(1);
-    }
-}
-
 /// What a load is asked for beside its six numbers, but for its addresses.
 #[derive(Clone, Copy, Debug, PartialEq, Eq)]
 struct Measured {
@@ -195,7 +163,7 @@ const JSON: Measured = Measured {
 
 /// Words of measured loads, the jobs and connections kept, and what else is asked for.
 static MEASURED: [(&str, (u32, u32), Measured); 17] = [
-    ("load --json", (20, 65_535), JSON),
+    ("load --json", (20, 80), JSON),
     ("load --json --jobs 3", (3, 12), JSON),
     ("load --json --connects 5", (20, 5), JSON),
     (
@@ -209,7 +177,7 @@ static MEASURED: [(&str, (u32, u32), Measured); 17] = [
     ),
     (
         "load --json --url http://a/ --url http://a:81/ --url http://b/",
-        (20, 65_535),
+        (20, 80),
         Measured {
             urls: (3, 2),
             timeout: Some(30),
@@ -218,7 +186,7 @@ static MEASURED: [(&str, (u32, u32), Measured); 17] = [
     ),
     (
         "load --json --url http://a/ --timeout 1",
-        (20, 65_535),
+        (20, 80),
         Measured {
             urls: (1, 0),
             timeout: Some(1),
@@ -227,7 +195,7 @@ static MEASURED: [(&str, (u32, u32), Measured); 17] = [
     ),
     (
         "load --json --timeout=3600",
-        (20, 65_535),
+        (20, 80),
         Measured {
             timeout: Some(3_600),
             ..JSON
@@ -235,7 +203,7 @@ static MEASURED: [(&str, (u32, u32), Measured); 17] = [
     ),
     (
         "load --json --connections 1024",
-        (20, 65_535),
+        (20, 80),
         Measured {
             connections: Some(1_024),
             ..JSON
@@ -251,7 +219,7 @@ static MEASURED: [(&str, (u32, u32), Measured); 17] = [
     ),
     (
         "load --json --warmup 0 --rate 1",
-        (20, 65_535),
+        (20, 80),
         Measured {
             rate: Some(1),
             ..JSON
@@ -259,7 +227,7 @@ static MEASURED: [(&str, (u32, u32), Measured); 17] = [
     ),
     (
         "load --json --warmup 3600 --rate 1000000",
-        (20, 65_535),
+        (20, 80),
         Measured {
             warmup: 3_600,
             rate: Some(1_000_000),
@@ -268,7 +236,7 @@ static MEASURED: [(&str, (u32, u32), Measured); 17] = [
     ),
     (
         "load --json --fail-above 0",
-        (20, 65_535),
+        (20, 80),
         Measured {
             fail_above: Some(0),
             ..JSON
@@ -276,7 +244,7 @@ static MEASURED: [(&str, (u32, u32), Measured); 17] = [
     ),
     (
         "load --json --fail-above 0.5",
-        (20, 65_535),
+        (20, 80),
         Measured {
             fail_above: Some(50),
             ..JSON
@@ -284,7 +252,7 @@ static MEASURED: [(&str, (u32, u32), Measured); 17] = [
     ),
     (
         "load --json --fail-above 12.34",
-        (20, 65_535),
+        (20, 80),
         Measured {
             fail_above: Some(1_234),
             ..JSON
@@ -292,7 +260,7 @@ static MEASURED: [(&str, (u32, u32), Measured); 17] = [
     ),
     (
         "load --json --fail-above 100.00",
-        (20, 65_535),
+        (20, 80),
         Measured {
             fail_above: Some(10_000),
             ..JSON
@@ -300,7 +268,7 @@ static MEASURED: [(&str, (u32, u32), Measured); 17] = [
     ),
     (
         "load --head --fail --quiet",
-        (20, 65_535),
+        (20, 80),
         Measured {
             flags: [true, false, true, false, true, false],
             ..JSON
@@ -308,7 +276,7 @@ static MEASURED: [(&str, (u32, u32), Measured); 17] = [
     ),
     (
         "load --forbid-reuse --no-progress --resolve [::1]:80:[::1]",
-        (20, 65_535),
+        (20, 80),
         Measured {
             flags: [false, true, false, false, false, true],
             ..JSON
@@ -328,13 +296,11 @@ fn words_of_measured_loads(rt: HostRuntime) {
         let (_, loader) = check(&rt, &row);
         let [_, given, _, _, _, kept] = loader.numbers;
         assert_eq!(rt; (given, kept), (*jobs, *connects), "{words}");
-        let measured = loader.measured.as_ref().expect(&rt, "measured");
-        let (numbers, flags) = (measured.numbers, measured.flags);
+        let plan = loader.plan.as_ref().expect(&rt, "a plan");
+        let (numbers, flags) = (plan.numbers, plan.flags);
+        assert!(rt; !plan.is_plain, "{words}");
         let told = Measured {
-            urls: (
-                measured.urls.len(),
-                measured.jobs.last().map_or(0, |job| job.site),
-            ),
+            urls: (plan.urls.len(), plan.jobs.last().map_or(0, |job| job.site)),
             connections: numbers.connections,
             seconds: numbers.seconds,
             warmup: numbers.warmup,
@@ -373,8 +339,8 @@ fn addresses_are_given(rt: HostRuntime) {
         let mut output = Vec::new(rt.alloc());
         let (status, _) = run(rt.alloc(), given, "", &network, &mut loader, &mut output);
         assert_eq!(rt; status, 0, "{value}");
-        let measured = loader.measured.as_ref().expect(&rt, "measured");
-        let resolved = measured.resolved.first().expect(&rt, "an address");
+        let plan = loader.plan.as_ref().expect(&rt, "a plan");
+        let resolved = plan.resolved.first().expect(&rt, "an address");
         assert_eq!(rt; resolved.host.as_str(), *host, "{value}");
         let told = resolved.address;
         let told = format!(in rt.alloc(); "{told}").expect(&rt, "memory");

@@ -4,6 +4,5 @@
 mod account;
 mod grid;
 mod many;
-mod running;
-mod sites;
+pub(crate) mod running;
 mod traces;

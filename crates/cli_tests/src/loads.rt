@@ -1,18 +1,18 @@
-//! What carries out no load: it keeps the plan, and answers what it is told to.
+//! A fake for loads: it keeps the plan, and returns a fixed answer.
 
-use cli::{LoadFailure, LoadFault, LoadOutcome, LoadPlan, MeasuredPlan};
+use cli::{LoadFailure, LoadFault, LoadOutcome, LoadPlan};
 use driver::DriverFault;
 use load_run::LoadError;
 use std::alloc::Global;
 
-/// Which report or fault it answers, how often it was asked, and with which numbers and file last.
+/// A fake for loads, with the report or fault that it returns, the number of calls, and the numbers
+/// and the plan of the last call.
 #[derive(Drop)]
 pub struct FakeLoader<'a> {
     answer: Result<&'a str, LoadFault>,
     pub asked: u32,
     pub numbers: [u32; 6],
-    pub trace: Option<String>,
-    pub measured: Option<MeasuredPlan>,
+    pub plan: Option<LoadPlan>,
 }
 
 impl<'a> FakeLoader<'a> {
@@ -21,20 +21,14 @@ impl<'a> FakeLoader<'a> {
             answer,
             asked: 0,
             numbers: [0; 6],
-            trace: None,
-            measured: None,
+            plan: None,
         }
     }
 
-    /// Carries out no load.
+    /// Keeps the plan, and returns the answer.
     pub fn load(&mut self, alloc: Global, plan: LoadPlan) -> Result<LoadOutcome, LoadFailure> {
-        let LoadPlan {
-            options,
-            trace,
-            measured,
-        } = plan;
-        self.trace = trace;
-        self.measured = measured;
+        let options = plan.options;
+        self.plan = Some(plan);
         self.asked = self.asked.saturating_add(1);
         self.numbers = [
             options.sites,

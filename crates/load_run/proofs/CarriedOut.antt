@@ -15,10 +15,10 @@ use Rattle.driver.specs.declared.many.worker.Finished.{Finished}
 use Rattle.driver.specs.ManyWork.{IsManyRun, back_of, begun_of}
 use Rattle.load_figures.specs.Figures.{JobFigures, no_figures}
 use Rattle.load_run.specs.declared.error.LoadError.{LoadError}
-use Rattle.load_run.specs.declared.many.loading.Ran.{Ran}
-use Rattle.load_run.specs.declared.many.account.Collected.{Collected}
-use Rattle.load_run.specs.declared.many.counted_results.CountedResults.{CountedResults}
-use Rattle.load_run.specs.declared.many.counted_results.Counting.{Counting}
+use Rattle.load_run.specs.declared.loading.Ran.{Ran}
+use Rattle.load_run.specs.declared.account.Collected.{Collected}
+use Rattle.load_run.specs.declared.counted_results.CountedResults.{CountedResults}
+use Rattle.load_run.specs.declared.counted_results.Counting.{Counting}
 use Rattle.load_run.specs.Counting.{AddsAll, IsUncounted, Takes, with_unbegun}
 use Rattle.load_run.specs.ManyLoads.{Collects, HasCarriedOut, IsNone, pass_in, pass_of, results_in, results_of}
 

@@ -5,7 +5,7 @@ use Rattle.bundle.specs.Passes.{Accounts}
 use Rattle.driver.specs.declared.many.worker.Finished.{Finished}
 use Rattle.load_figures.specs.Counts.{capped}
 use Rattle.load_figures.specs.Figures.{JobFigures}
-use Rattle.load_run.specs.declared.many.counted_results.CountedResults.{CountedResults}
+use Rattle.load_run.specs.declared.counted_results.CountedResults.{CountedResults}
 use Rattle.load_run.specs.Counting.{AddsAll, AddsFigures, with_unbegun}
 use Rattle.load_run.specs.ManyLoads.{pass_in, results_in}
 

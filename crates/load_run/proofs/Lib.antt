@@ -1,7 +1,5 @@
 pub mod CutLogs
-pub mod WhatIsLoaded
 pub mod Refusals
-pub mod SiteAddresses
 pub mod TakenResults
 pub mod CollectedWork
 pub mod CarriedOut

@@ -4,7 +4,7 @@ use mathlib.Core.Bool.{false≢true}
 use Rattle.exchange.specs.declared.done.Done.{Done}
 use Rattle.run_loop.specs.declared.results.Span.{Span}
 use Rattle.load_figures.specs.Counts.{capped}
-use Rattle.load_run.specs.declared.many.counted_results.CountedResults.{CountedResults}
+use Rattle.load_run.specs.declared.counted_results.CountedResults.{CountedResults}
 use Rattle.load_run.specs.Counting.{Counts, Takes, has_not_begun, warm_of}
 
 pub takes_unbegun : (number : ℕ) (done : Done) (span : Span) (own new : CountedResults) → has_not_begun done span ≡ true → new ≡ record own { unbegun = capped (own.unbegun + 1) } → Takes own new number done span

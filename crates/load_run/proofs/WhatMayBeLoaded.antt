@@ -5,10 +5,9 @@ use Rattle.exchange.specs.Worlds.{World}
 use Rattle.shared_cache.specs.Names.{CacheNames, IsPlanFor}
 use Rattle.shared_cache.specs.Gathering.{IsGathered}
 use Rattle.load_run.specs.declared.error.LoadError.{LoadError}
-use Rattle.load_run.specs.declared.many.counted_results.Counting.{Counting}
-use Rattle.load_run.specs.declared.many.loading.LoadedMany.{LoadedMany}
-use Rattle.load_run.specs.declared.many.loading.Ran.{Ran}
-use Rattle.load_run.specs.declared.many.plan.ManyPlan.{ManyPlan}
+use Rattle.load_run.specs.declared.loading.LoadedMany.{LoadedMany}
+use Rattle.load_run.specs.declared.loading.Ran.{Ran}
+use Rattle.load_run.specs.declared.plan.ManyPlan.{ManyPlan}
 use Rattle.load_run.specs.Counting.{missed_of, warm_of}
 use Rattle.load_run.specs.ManyLoads.{AreLogsIn, HasCarriedOut, HasRun, IsLoadedMany, IsLoadedManyBy, counting_of, jobs_of, workers_of}
 use Rattle.load_run.specs.UrlJobs.{in_turn}

@@ -10,10 +10,10 @@ use Rattle.load_figures.specs.Figures.{JobFigures, CountsInIntervals, counted_at
 use Rattle.load_figures.specs.Intervals.{JoinsLine}
 use Rattle.load_figures.specs.Outcomes.{outcome_of}
 use Rattle.load_figures.specs.declared.outcome.Outcome.{Outcome}
-use Rattle.load_run.specs.declared.many.counted_results.Counting.{Counting}
-use Rattle.load_run.specs.declared.many.counted_results.CountedResults.{CountedResults}
-use Rattle.load_run.specs.declared.many.pace.Rate.{Rate}
-use Rattle.load_run.specs.declared.many.plan.LoadTimes.{LoadTimes}
+use Rattle.load_run.specs.declared.counted_results.Counting.{Counting}
+use Rattle.load_run.specs.declared.counted_results.CountedResults.{CountedResults}
+use Rattle.load_run.specs.declared.pace.Rate.{Rate}
+use Rattle.load_run.specs.declared.plan.LoadTimes.{LoadTimes}
 use Rattle.load_run.specs.Pace.{due_at, due_before}
 
 -- when the warm-up ends, and how long a job may take at most, in microseconds; 0 is no limit

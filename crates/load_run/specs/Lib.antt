@@ -1,6 +1,5 @@
 pub mod Logs
 pub mod Loading
-pub mod Dials
 pub mod Pace
 pub mod UrlJobs
 pub mod Counting

@@ -17,12 +17,12 @@ use Rattle.driver.specs.Faults.{IsWorkerFault}
 use Rattle.driver.specs.ManyWork.{IsManyRun, are_bad_tools}
 use Rattle.load_run.specs.declared.error.LoadError.{LoadError}
 use Rattle.load_run.specs.declared.error.LoadError.TheVariants.{Run, Gather}
-use Rattle.load_run.specs.declared.many.counted_results.CountedResults.{CountedResults}
-use Rattle.load_run.specs.declared.many.loading.LoadedMany.{LoadedMany}
-use Rattle.load_run.specs.declared.many.plan.ManyPlan.{ManyPlan}
+use Rattle.load_run.specs.declared.counted_results.CountedResults.{CountedResults}
+use Rattle.load_run.specs.declared.loading.LoadedMany.{LoadedMany}
+use Rattle.load_run.specs.declared.plan.ManyPlan.{ManyPlan}
 use Rattle.load_figures.specs.Figures.{no_figures}
-use Rattle.load_run.specs.declared.many.account.Collected.{Collected}
-use Rattle.load_run.specs.declared.many.counted_results.Counting.{Counting}
+use Rattle.load_run.specs.declared.account.Collected.{Collected}
+use Rattle.load_run.specs.declared.counted_results.Counting.{Counting}
 use Rattle.load_run.specs.Counting.{AddsAll, IsUncounted, Takes, missed_of, warm_of, with_unbegun}
 use Rattle.load_run.specs.Logs.{AreLogsOf}
 use Rattle.load_run.specs.UrlJobs.{in_turn}

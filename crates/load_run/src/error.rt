@@ -1,13 +1,13 @@
-//! Why a load has no account.
+//! Reasons why a load has no account.
 
 use driver::DriverFault;
 
-/// Why a load has no account.
+/// The reason why a load has no account.
 #[derive(Clone, Copy, Debug, PartialEq, Eq)]
 pub enum LoadError {
-    /// The jobs could not be carried out.
+    /// The run failed.
     Run(DriverFault),
-    /// The cache could not be gathered. After a run whose jobs were carried out it is not expected,
-    /// but that it doesn't come then is not proved.
+    /// The cache could not be gathered. This is not expected after a complete run, but no contract
+    /// rules it out.
     Gather,
 }

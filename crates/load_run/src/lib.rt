@@ -1,12 +1,24 @@
-//! Jobs that threads carry out over one shared cache of this machine's sockets, and the account of
-//! the cache at its end.
+//! Loads: many requests at once over one shared cache of polled sockets, their figures, and the
+//! account of the cache.
 #![tactic(auto)]
 
-mod dials;
+mod account;
+mod counted_results;
 mod error;
+mod load_clock;
+mod load_timer;
 mod loading;
-mod many;
+mod logs;
+mod pace;
+mod plan;
+mod progress;
+mod tools;
+mod url_jobs;
+mod wait_sum;
+mod watch;
 
 pub use error::LoadError;
-pub use loading::{Loaded, load};
-pub use many::{LoadTimes, LoadedMany, ManyPlan, Rate, Seen, Unwatched, Watch, load_many};
+pub use loading::{LoadedMany, load_many};
+pub use pace::Rate;
+pub use plan::{LoadTimes, ManyPlan};
+pub use watch::{Seen, Unwatched, Watch};

@@ -1,127 +1,348 @@
-//! A load: its plan, its cache, its run, and its account.
+//! A load: its cache, its run, and its result.
 
-ghost use Rattle.std.specs.Prelude.{◌≡◌, ℕ, ◌≤◌, IfOk, IfErr, OnOk, length, false, ⊤};
+ghost use Rattle.std.specs.Prelude.{◌≡◌, ◌-◌, ◌≤◌, ℕ, [], length, false, ⊤};
+ghost use Rattle.std.specs.Prelude.{vec_len, vec_capacity, IfErr, IfOk, OnOk};
 ghost use Rattle.std.specs.List.{All};
-ghost use Rattle.shared_cache.specs.Passes.{IsPassOf};
-ghost use Rattle.shared_cache.specs.Gathering.{IsGathered};
 ghost use Rattle.exchange.specs.Worlds.{world_of};
+ghost use Rattle.shared_cache.specs.Gathering.{IsGathered};
+ghost use Rattle.shared_cache.specs.Passes.{IsPassOf};
 ghost use Rattle.driver.specs.Faults.{are_bad_workers};
-ghost use Rattle.load_run.specs.Loading.{IsLoaded, IsLoadedBy, IsLoadRefusedFor};
-ghost use Rattle.load_run.specs.Logs.{AreLogsOf};
-ghost use Rattle.std.specs.declared.net.TcpStream.{TcpStream};
-ghost use Rattle.socket.specs.declared.waiting.WaitingWire.{WaitingWire};
+ghost use Rattle.driver.specs.ManyWork.{HavePasses, are_bad_tools};
+ghost use Rattle.load_run.specs.Loading.{IsLoadRefusedFor};
+ghost use Rattle.load_run.specs.ManyLoads.{AreLogsIn, Collects, HasCarriedOut, HasRun};
+ghost use Rattle.load_run.specs.ManyLoads.{IsLoadedMany, IsLoadedManyBy, IsManyRefusedFor, IsNone};
+ghost use Rattle.load_run.specs.ManyLoads.{jobs_of, workers_of};
+ghost use Rattle.load_run.specs.Counting.{IsUncounted, missed_of, warm_of};
+ghost use Rattle.load_run.specs.Stopping.{MayStop};
+ghost use Rattle.load_run.specs.UrlJobs.{in_turn};
+ghost use Rattle.run_loop.specs.Going.{is_fault};
 
-use crate::dials::dials_for;
+use crate::account::Collected;
+use crate::counted_results::{CountedResults, Counting};
 use crate::error::LoadError;
-use budget::{Limits, Refusal};
+use crate::load_clock::LoadClock;
+use crate::load_timer::LoadTimer;
+use crate::logs::{cut_logs, error_of};
+use crate::plan::{LoadTimes, ManyPlan};
+use crate::tools::{alarms_of, progress_for, tools_for};
+use crate::url_jobs::UrlJobs;
+use crate::wait_sum::WaitSum;
+use crate::watch::Watch;
+use budget::Refusal;
 use conn_log::Entry;
-use driver::{DriverFault, NoGate, RunReport, run};
-use exchange::{Done, Job, Wire};
+use driver::{DriverFault, ManyReport, NotBegun, Tools, run_many};
+use exchange::Wire;
+use load_figures::Figures;
+use run_loop::MicroClock;
 use shared_cache::{Gathered, Names, Plan, SharedCache, discard_all};
-use socket::{SystemClock, WaitingWire};
+use socket::{PolledDial, PolledWire, SystemClock};
 use std::alloc::{AllocGlobal, Global};
 use std::marker::Brand;
-use std::net::SocketAddr;
 use std::random::RandomSource;
 use std::sync::Wait;
+use std::sync::atomic::{AtomicBool, AtomicU64};
 use std::thread::Threads;
 
-/// What a load leaves.
+/// Maximum number of jobs of a load. A counter can draw no more.
+const MOST_JOBS: u64 = 0x7fff_ffff_ffff_ffff;
+
+/// The result of a load.
 #[derive(Drop)]
-pub struct Loaded {
-    /// How each job ended, in the order of the jobs.
-    pub results: Vec<Done>,
-    /// What happened at each site, oldest first: the logs of the hosts, as they were cut.
+pub struct LoadedMany {
+    /// Figures of the jobs that ended after the warm-up.
+    pub figures: Figures,
+    /// Time from the end of the warm-up to the end of the load, in microseconds.
+    pub elapsed: u64,
+    /// Number of jobs that were drawn, from job 0 on.
+    pub drawn: u64,
+    /// Number of jobs that were due before the load ended, and never begun; 0 without a rate.
+    pub missed: u64,
+    /// Total time for which transfers waited for connections, in microseconds, by counts every ten
+    /// milliseconds.
+    pub waited: u64,
+    /// The end of each host's log, after the entries that the watcher took. Oldest entry first.
     pub logs: Vec<Vec<Entry>>,
-    /// The account of the cache. The connections that it left open close with it.
-    pub gathered: Gathered<WaitingWire>,
+    /// The account of the cache. Dropping it closes the connections that are still open.
+    pub gathered: Gathered<PolledWire>,
 }
 
-/// Carries out the jobs by so many threads, which share one cache under these limits, cuts the log
-/// of every host, and gathers the cache: its account is of all that happened, though no log has
-/// entries left. What was cut is handed out. There are at most 1,024 sites, and connections to each
-/// are opened to its address; a read or a write waits ten milliseconds at most. Its clock tells 0
-/// if the system tells no time.
+/// The result of a run whose cache is not gathered yet.
+struct Ran {
+    collected: Collected,
+    /// The moment of its end, in microseconds after its start.
+    ended: u64,
+    /// Total time for which transfers waited, in microseconds.
+    waited: u64,
+    drawn: u64,
+}
+
+/// Runs a load. Its threads share one cache of polled sockets, and the places for jobs in flight.
+/// The load ends with its last job, when its time is up, or when its watcher ends it; jobs in
+/// flight are then cancelled. During the run the logs are cut, and the entries go to the watcher,
+/// so memory does not grow with the number of jobs. The account covers the whole run. No more
+/// threads work than there are places.
 ///
 /// # Errors
 ///
-/// What [`run`] refuses; also [`DriverFault::Poll`] if the system gives no poller, and
-/// [`DriverFault::Memory`] if memory runs out before or after the run. With bad workers these may
-/// come first, since dials are made before the run. [`LoadError::Gather`] is not expected, though
-/// no clause rules it out.
-pub fn load<R: Threads + Wait + RandomSource + AllocGlobal + Sync>(
+/// - [`DriverFault::BadWorkers`]: there are no addresses, more than 64, or no places.
+/// - [`DriverFault::Memory`]: memory ran out, there are no URLs, or there are more than 1,024
+///   hosts.
+/// - [`DriverFault::Poll`]: the system gives no poller, or a turn of one failed.
+/// - [`LoadError::Gather`]: not expected, though no clause rules it out.
+pub fn load_many<R: Threads + Wait + RandomSource + AllocGlobal + Sync, V: Watch + Sync>(
     rt: &R,
     system: &HostRuntime,
     alloc: Global,
-    limits: Limits,
-    sites: &[SocketAddr],
-    jobs: &[Job],
-    workers: u32,
-) -> Result<Loaded, LoadError>
-    requires { length sites.now ≤ 1024 }
-    ensures ok { IfOk result (IsLoaded (world_of ⟦<WaitingWire as Wire>⟧.untouched
-        ⟦<WaitingWire as Wire>⟧.happened (λ moment. ⊤)) limits (length sites.now) jobs.now
-        workers) }
-    ensures workers { OnOk result (are_bad_workers workers ≡ false) }
-    ensures refused { IfErr result (IsLoadRefusedFor workers) }
+    plan: ManyPlan<'_>,
+    watch: &V,
+) -> Result<LoadedMany, LoadError>
+    ensures ok { IfOk result (IsLoadedMany (world_of ⟦<PolledWire as Wire>⟧.untouched
+        ⟦<PolledWire as Wire>⟧.happened (λ moment. ⊤))
+        (λ number. MayStop plan.entry.times (V.may_end watch.now)) (λ moment. ⊤) plan.entry) }
+    ensures workers { OnOk result (are_bad_workers (workers_of plan.entry) ≡ false) }
+    ensures refused { IfErr result (IsLoadRefusedFor (workers_of plan.entry)) }
 {
-    let hosts = sites.len() as u32;
-    let planned: Result<Plan<WaitingWire>, Refusal> = Plan::new(alloc, limits, hosts);
+    let planned: Result<Plan<PolledWire>, Refusal> = Plan::new(alloc, plan.limits, plan.hosts);
     match planned {
-        Ok(plan) => load_by::<Brand, R>(rt, system, alloc, plan, sites, jobs, workers),
+        Ok(hosts) => load_over::<Brand, R, V>(rt, system, alloc, hosts, plan, watch),
         Err(_refusal) => Err(LoadError::Run(DriverFault::Memory)),
     }
 }
 
-// The same, over the cache of that plan.
-fn load_by<N: Names + Send + Sync, R: Threads + Wait + RandomSource + AllocGlobal + Sync>(
+// Runs a load over the cache of that plan.
+fn load_over<
+    N: Names + Send + Sync,
+    R: Threads + Wait + RandomSource + AllocGlobal + Sync,
+    V: Watch + Sync,
+>(
     rt: &R,
     system: &HostRuntime,
     alloc: Global,
-    plan: Plan<WaitingWire>,
-    sites: &[SocketAddr],
-    jobs: &[Job],
-    workers: u32,
-) -> Result<Loaded, LoadError>
-    requires { plan ≡ N.names }
-    ensures ok { IfOk result (IsLoadedBy (world_of ⟦<WaitingWire as Wire>⟧.untouched
-        ⟦<WaitingWire as Wire>⟧.happened (λ moment. ⊤)) N.names jobs.now workers) }
-    ensures workers { OnOk result (are_bad_workers workers ≡ false) }
-    ensures refused { IfErr result (IsLoadRefusedFor workers) }
+    hosts: Plan<PolledWire>,
+    plan: ManyPlan<'_>,
+    watch: &V,
+) -> Result<LoadedMany, LoadError>
+    requires { hosts ≡ N.names }
+    ensures ok { IfOk result (IsLoadedManyBy (world_of ⟦<PolledWire as Wire>⟧.untouched
+        ⟦<PolledWire as Wire>⟧.happened (λ moment. ⊤))
+        (λ number. MayStop plan.entry.times (V.may_end watch.now)) (λ moment. ⊤) N.names
+        plan.entry) }
+    ensures workers { OnOk result (are_bad_workers (workers_of plan.entry) ≡ false) }
+    ensures refused { IfErr result (IsLoadRefusedFor (workers_of plan.entry)) }
 {
-    let made: Result<SharedCache<WaitingWire, N>, (Plan<WaitingWire>, Refusal)> = SharedCache::new(
-        alloc, plan,
+    let made: Result<SharedCache<PolledWire, N>, (Plan<PolledWire>, Refusal)> = SharedCache::new(
+        alloc, hosts,
     );
     let Ok(cache) = made else {
         return Err(LoadError::Run(DriverFault::Memory));
     };
-    let mut dials = dials_for(system, alloc, sites, workers)?;
-    let clock = SystemClock::or_still(system);
-    match run(rt, alloc, &cache, jobs, &mut dials, &clock, &NoGate) {
-        Ok(report) => account_of(rt, alloc, cache, report),
-        Err((fault, passes)) => {
+    let times = plan.times;
+    let jobs = plan.jobs.unwrap_or(MOST_JOBS);
+    let ran = run_over(rt, system, alloc, &cache, jobs, plan, watch)?;
+    account_of(rt, alloc, cache, ran, times, jobs)
+}
+
+// Runs `jobs` jobs over that cache.
+fn run_over<
+    N: Names + Send + Sync,
+    R: Threads + Wait + RandomSource + AllocGlobal + Sync,
+    V: Watch + Sync,
+>(
+    rt: &R,
+    system: &HostRuntime,
+    alloc: Global,
+    cache: &SharedCache<PolledWire, N>,
+    jobs: u64,
+    plan: ManyPlan<'_>,
+    watch: &V,
+) -> Result<Ran, LoadError>
+    requires { jobs ≡ jobs_of plan.jobs }
+    ensures ok { IfOk result (λ ran. HasRun (world_of ⟦<PolledWire as Wire>⟧.untouched
+        ⟦<PolledWire as Wire>⟧.happened (λ moment. ⊤))
+        (λ number. MayStop plan.entry.times (V.may_end watch.now)) (λ moment. ⊤) N.names
+        plan.entry ran.collected ran.drawn) }
+    ensures of_cache { IfOk result (λ ran. All (IsPassOf N.names) ran.collected.passes.items) }
+    ensures workers { OnOk result (are_bad_workers (workers_of plan.entry) ≡ false) }
+    ensures refused { IfErr result (IsLoadRefusedFor (workers_of plan.entry)) }
+{
+    let counting = Counting {
+        urls: plan.urls,
+        times: plan.times,
+        fails_statuses: plan.fails_statuses,
+    };
+    let Some(source) = UrlJobs::new(alloc, plan.urls, plan.times.rate) else {
+        return Err(LoadError::Run(DriverFault::Memory));
+    };
+    let places = plan.connections as usize;
+    let mut addresses = plan.addresses;
+    addresses.truncate(places);
+    let Ok(progress) = progress_for(alloc, addresses.len()) else {
+        return Err(LoadError::Run(DriverFault::Memory));
+    };
+    let collected = Collected::new(alloc, plan.hosts, addresses.len())?;
+    let tools = match tools_for(system, alloc, addresses, plan.hosts, counting, &progress) {
+        Ok(tools) => tools,
+        Err(error) => {
+            collected.discard();
+            return Err(error);
+        }
+    };
+    let timer = LoadTimer {
+        rt,
+        clock: LoadClock(SystemClock::or_still(system)),
+        cache,
+        times: plan.times,
+        watch,
+        progress: &progress,
+        swept: AtomicU64::new(0),
+        cut: AtomicU64::new(0),
+        is_cutting: AtomicBool::new(false),
+        waits: WaitSum::new(),
+    };
+    carry_out(
+        rt, alloc, cache, &source, jobs, places, tools, collected, &timer,
+    )
+}
+
+// Runs `jobs` jobs with these tools, at most `places` at once.
+fn carry_out<
+    N: Names + Send + Sync,
+    R: Threads + Wait + RandomSource + AllocGlobal + Sync,
+    V: Watch + Sync,
+    K: MicroClock + Sync,
+>(
+    rt: &R,
+    alloc: Global,
+    cache: &SharedCache<PolledWire, N>,
+    source: &UrlJobs<'_>,
+    jobs: u64,
+    places: usize,
+    tools: Vec<Tools<PolledDial<'_, HostRuntime>, CountedResults<'_>>>,
+    collected: Collected,
+    timer: &LoadTimer<'_, N, R, V, K>,
+) -> Result<Ran, LoadError>
+    requires none { collected.passes.items ≡ [] }
+    requires room { vec_len tools ≤ vec_capacity collected.passes }
+    ensures ok { (hosts : ℕ) (counting : _) → IsNone hosts collected
+        → All (λ own. IsUncounted hosts counting own.results) tools.entry.items
+        → IfOk result (λ ran. HasCarriedOut (world_of ⟦<PolledWire as Wire>⟧.untouched
+        ⟦<PolledWire as Wire>⟧.happened (K.tells timer.now.clock))
+        (λ number. MayStop timer.now.times (V.may_end timer.now.watch.now))
+        (K.tells_micros timer.now.clock) N.names (in_turn source.now.urls.now
+        source.now.first.now) jobs (length tools.entry.items) hosts counting ran.collected
+        ran.drawn) }
+    ensures ended { IfOk result (λ ran. K.tells_micros timer.now.clock ran.ended) }
+    ensures of_cache { IfOk result (λ ran. All (IsPassOf N.names) ran.collected.passes.items) }
+    ensures workers { OnOk result (are_bad_tools (vec_len tools.entry) places ≡ false) }
+    ensures refused { IfErr result (IsManyRefusedFor (vec_len tools.entry) places) }
+{
+    let alarms = match alarms_of(alloc, &tools) {
+        Ok(alarms) => alarms,
+        Err(error) => {
+            collected.discard();
+            return Err(error);
+        }
+    };
+    match run_many(
+        rt, alloc, cache, source, jobs, places, tools, &alarms, timer,
+    ) {
+        Ok(report) => collected.ran::<N>(report, timer.moment(), timer.waits.micros()),
+        Err(
+            NotBegun {
+                fault,
+                tools: _,
+                passes,
+            },
+        ) => {
             discard_all(passes);
+            collected.discard();
             Err(LoadError::Run(fault))
         }
     }
 }
 
-// The results of a run, with the account of its cache, whose logs are cut before.
+impl Collected {
+    // Returns the result of a run that ended at that moment, unless a turn failed.
+    fn ran<N: Names>(
+        self,
+        report: ManyReport<PolledDial<'_, HostRuntime>, CountedResults<'_>>,
+        ended: u64,
+        waited: u64,
+    ) -> Result<Ran, LoadError>
+        requires none { self.passes.items ≡ [] }
+        requires room { vec_len report.workers ≤ vec_capacity self.passes }
+        requires of_cache { HavePasses N.names report.workers.items }
+        ensures collects { IfOk result (λ ran.
+            Collects self ran.collected report.entry.workers.items) }
+        ensures of_cache { IfOk result (λ ran.
+            All (IsPassOf N.names) ran.collected.passes.items) }
+        ensures drawn { IfOk result (λ ran. ran.drawn ≡ report.entry.drawn) }
+        ensures ended { IfOk result (λ ran. ran.ended ≡ ended) }
+        ensures sound { OnOk result (is_fault report.entry.end ≡ false) }
+        ensures refused { IfErr result (λ error. error ≡ LoadError.Run DriverFault.Poll) }
+    {
+        let ManyReport {
+            end,
+            drawn,
+            workers,
+        } = report;
+        let collected = self.take::<N>(workers);
+        if end.is_fault() {
+            collected.discard();
+            return Err(LoadError::Run(DriverFault::Poll));
+        }
+        Ok(Ran {
+            collected,
+            ended,
+            waited,
+            drawn,
+        })
+    }
+}
+
+// Returns the number of jobs that were due before a load ended, and never begun.
+fn missed(times: LoadTimes, jobs: u64, ended: u64, begun: u64) -> u64
+    ensures { result ≡ missed_of times jobs ended begun }
+{
+    let Some(rate) = times.rate else {
+        return 0;
+    };
+    let end = times.end().unwrap_or(ended).min(ended);
+    rate.due_before(jobs, end).saturating_sub(begun)
+}
+
+// Cuts the logs of a run's cache, gathers the cache, and returns the result of the load.
 fn account_of<N: Names, R: Wait>(
     rt: &R,
     alloc: Global,
-    cache: SharedCache<WaitingWire, N>,
-    report: RunReport,
-) -> Result<Loaded, LoadError>
-    requires { All (IsPassOf N.names) report.passes.items }
-    ensures results { IfOk result (λ loaded. loaded.results ≡ report.results) }
-    ensures logs { IfOk result (λ loaded. AreLogsOf (WaitingWire TcpStream) N.names
-        loaded.logs.items) }
+    cache: SharedCache<PolledWire, N>,
+    ran: Ran,
+    times: LoadTimes,
+    jobs: u64,
+) -> Result<LoadedMany, LoadError>
+    requires { All (IsPassOf N.names) ran.collected.passes.items }
+    ensures drawn { IfOk result (λ loaded. loaded.drawn ≡ ran.drawn) }
+    ensures figures { IfOk result (λ loaded. loaded.figures ≡ ran.collected.figures) }
+    ensures elapsed { IfOk result (λ loaded. loaded.elapsed ≡ ran.ended - warm_of times) }
+    ensures missed { IfOk result (λ loaded. loaded.missed
+        ≡ missed_of times jobs ran.ended (ran.drawn - ran.collected.unbegun)) }
+    ensures logs { IfOk result (λ loaded. AreLogsIn (world_of ⟦<PolledWire as Wire>⟧.untouched
+        ⟦<PolledWire as Wire>⟧.happened (λ moment. ⊤)) N.names loaded.logs.items) }
     ensures gathered { IfOk result (λ loaded.
-        IsGathered N.names report.passes.items loaded.gathered) }
+        IsGathered N.names ran.collected.passes.items loaded.gathered) }
     ensures refused { (workers : ℕ) → IfErr result (IsLoadRefusedFor workers) }
 {
-    let RunReport { results, passes } = report;
+    let Ran {
+        collected,
+        ended,
+        waited,
+        drawn,
+    } = ran;
+    let Collected {
+        figures,
+        unbegun,
+        passes,
+    } = collected;
     let logs = match cut_logs(rt, alloc, &cache) {
         Ok(logs) => logs,
         Err(refusal) => {
@@ -130,8 +351,12 @@ fn account_of<N: Names, R: Wait>(
         }
     };
     match cache.gather(alloc, passes) {
-        Ok(gathered) => Ok(Loaded {
-            results,
+        Ok(gathered) => Ok(LoadedMany {
+            figures,
+            elapsed: ended.saturating_sub(times.warm()),
+            drawn,
+            waited,
+            missed: missed(times, jobs, ended, drawn.saturating_sub(unbegun)),
             logs,
             gathered,
         }),
@@ -139,35 +364,5 @@ fn account_of<N: Names, R: Wait>(
             discard_all(passes);
             Err(error_of(refusal))
         }
-    }
-}
-
-// Cuts the log of every host: what is handed out, in the order of the hosts.
-pub(crate) fn cut_logs<S: Drop, N: Names, R: Wait>(
-    rt: &R,
-    alloc: Global,
-    cache: &SharedCache<S, N>,
-) -> Result<Vec<Vec<Entry>>, Refusal>
-    ensures { IfOk result (λ logs. AreLogsOf S N.names logs.items) }
-{
-    let hosts = cache.hosts();
-    let Ok(logs) = Vec::with_capacity(alloc, hosts as usize) else {
-        return Err(Refusal::Memory);
-    };
-    let mut logs = logs;
-    for site in 0..hosts {
-        let log = cache.cut(rt, site)?;
-        logs.push_reserved(log);
-    }
-    Ok(logs)
-}
-
-// Why there is no account, if a cut or the gathering was refused so.
-pub(crate) fn error_of(refusal: Refusal) -> LoadError
-    ensures { (workers : ℕ) → IsLoadRefusedFor workers result }
-{
-    match refusal {
-        Refusal::Memory => LoadError::Run(DriverFault::Memory),
-        _ => LoadError::Gather,
     }
 }

@@ -1,7 +1,7 @@
 //! Addresses of hosts on this machine.
 
 use socket::Addresses;
-use std::alloc::{AllocError, Global};
+use std::alloc::Global;
 use std::net::{IpAddr, Ipv4Addr, SocketAddr};
 
 /// Returns the addresses of the hosts at these ports of 127.0.0.1. `None` if an allocation fails.
@@ -12,19 +12,6 @@ pub(crate) fn addresses_of(alloc: Global, ports: &[u16]) -> Option<Addresses> {
         addresses.add_resolved(one).ok()?;
     }
     Some(addresses)
-}
-
-/// Returns the same addresses as a list.
-///
-/// # Errors
-///
-/// An allocation failed.
-pub(crate) fn sites_at(alloc: Global, ports: &[u16]) -> Result<Vec<SocketAddr>, AllocError> {
-    let mut sites = Vec::new(alloc);
-    for port in ports {
-        sites.push(address_of(*port))?;
-    }
-    Ok(sites)
 }
 
 // Returns the address of that port of 127.0.0.1.

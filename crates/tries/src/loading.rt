@@ -1,18 +1,17 @@
 //! The command `load each`: threads send requests over one shared cache, and each request has a
 //! line.
 
+mod running;
 mod task;
 
-use crate::addresses::sites_at;
 use crate::jobs::{jobs_at, print_line};
+use crate::loading::running::{Ran, run_jobs};
 use crate::loading::task::{Task, task_of};
 use crate::statuses::{BAD_WORDS, status_of};
 use crate::tally::Tally;
 use budget::Limits;
 use bundle::MOST_HOSTS;
 use cache_report::totals;
-use exchange::Done;
-use load_run::{Loaded, load};
 use shared_cache::HostCount;
 use std::alloc::AllocGlobal;
 use std::io::Write;
@@ -32,37 +31,36 @@ pub(crate) fn load_each<R: Threads + Wait + RandomSource + AllocGlobal + Sync>(
     let Some(task) = task_of(rt.alloc(), words) else {
         return BAD_WORDS;
     };
-    let Some(loaded) = loaded_by(threads, rt, &task) else {
+    let Some(ran) = ran_by(threads, rt, &task) else {
         return status_of(None);
     };
-    status_of(print_loaded(rt, &loaded))
+    status_of(print_loaded(rt, &ran))
 }
 
 // Runs the jobs of the task. `None` if they could not begin.
-fn loaded_by<R: Threads + Wait + RandomSource + AllocGlobal + Sync>(
+fn ran_by<R: Threads + Wait + RandomSource + AllocGlobal + Sync>(
     threads: &R,
     rt: &HostRuntime,
     task: &Task,
-) -> Option<Loaded> {
+) -> Option<Ran> {
     let alloc = rt.alloc();
     let limits = Limits::new(0, task.total, KEPT).ok()?;
-    let sites = sites_at(alloc, &task.ports).ok()?;
-    if sites.is_empty() || sites.len() > MOST_HOSTS as usize {
+    if task.ports.is_empty() || task.ports.len() > MOST_HOSTS as usize {
         return None;
     }
     let jobs = jobs_at(alloc, task.jobs, &task.ports).ok()?;
-    load(threads, rt, alloc, limits, &sites, &jobs, task.workers).ok()
+    run_jobs(threads, rt, limits, &task.ports, &jobs, task.workers)
 }
 
 // Prints a line for each job, with its path, and the sums. `None` if printing failed.
-fn print_loaded(rt: &HostRuntime, loaded: &Loaded) -> Option<bool> {
+fn print_loaded(rt: &HostRuntime, ran: &Ran) -> Option<bool> {
     let mut tally = Tally::new();
-    for (number, done) in loaded.results.iter().enumerate() {
+    for (number, done) in ran.results.iter().enumerate() {
         let path = format!(in rt.alloc(); "/{number}").ok()?;
         print_line(rt, path.as_str(), done)?;
         tally.add(done);
     }
-    print_tally(rt, &tally, totals(&loaded.gathered.hosts))
+    print_tally(rt, &tally, totals(&ran.gathered.hosts))
 }
 
 // Prints the sums over all jobs and all hosts. `None` if printing failed.

@@ -211,12 +211,13 @@ connections take the jobs 0, 1, 2 ..; job K requests /K from site K modulo the
 number of sites. With --trace, the calls to the cache and their effects go to a
 file for curlpool audit. Numbers are unsigned decimal integers.
 
-With any option after --trace above, each thread has many requests in flight,
-job K requests URL K modulo the number of URLs (or / of a site of this process),
-and a summary is printed on standard error: requests, bytes of bodies, latency,
-connections (and the time that requests waited for one, in total), statuses and
-faults. Without --seconds, the load ends after --jobs requests. The system looks
-a host name up, unless it is localhost, an address, or given by --resolve.
+With --url, job K requests URL K modulo the number of URLs. The system looks a
+host name up, unless it is localhost, an address, or given by --resolve.
+
+With any option after --trace above, a summary is printed on standard error:
+requests, bytes of bodies, latency, connections (and the time that requests
+waited for one, in total), statuses and faults. Without --seconds, the load ends
+after --jobs requests.
 Requests in flight when time is up are stopped, and count as neither done nor
 failed. --rate is the rate of all connections. Only whole responses have a
 latency, which is timed from when the request was due. Figures include opening
@@ -250,8 +251,7 @@ no good response    With any option after --trace above: no request succeeded
 Status              0: the report was written; 2: invalid command line, and
                     nothing was done; 4: no good response, no report, or part of
                     the output is missing (run: .. says why); 5: more requests
-                    failed than --fail-above allows; 130: Ctrl-C ended a load
-                    with one of the options after --trace
+                    failed than --fail-above allows; 130: Ctrl-C ended the load
 
 Examples
 curlpool load --sites 1 --jobs 3 --workers 1

@@ -6,7 +6,7 @@ use client::{Answer, LookUps, Names, Resolver};
 use std::alloc::{AllocError, Global};
 use std::cell::RefCell;
 use std::collections::VecDeque;
-use std::net::SocketAddr;
+use std::net::{Ipv4Addr, SocketAddr};
 use std::sync::Wait;
 
 /// Maximum number of threads that look up names.
@@ -65,13 +65,15 @@ fn more_threads(word: &str, threads: u32) -> u32 {
 
 // True if a word is an `http` URL whose host is neither an address nor `localhost`.
 fn names_host(word: &str) -> bool {
-    match word.split_once("://") {
-        Some((scheme, rest)) => {
-            let is_address = rest.starts_with(|c| c == '[' || ('0' <= c && c <= '9'));
-            scheme.eq_ignore_ascii_case("http") && !is_address && !rest.starts_with("localhost")
-        }
-        None => false,
-    }
+    let Some((scheme, rest)) = word.split_once("://") else {
+        return false;
+    };
+    let host = match rest.split_once(|c| c == '/' || c == ':' || c == '?' || c == '#') {
+        Some((host, _)) => host,
+        None => rest,
+    };
+    let is_address = host.starts_with('[') || Ipv4Addr::parse_ascii(host.as_bytes()).is_ok();
+    scheme.eq_ignore_ascii_case("http") && !is_address && !host.eq_ignore_ascii_case("localhost")
 }
 
 /// Looks up names in the system, on threads if there are any, during transfers.

@@ -30,7 +30,7 @@ const JOBS: NumberRange = NumberRange {
     greatest: 10_000,
 };
 
-/// The range of the jobs of a load that has URLs or seconds.
+/// The range of the number of jobs with URLs or seconds.
 const MANY_JOBS: NumberRange = NumberRange {
     least: 1,
     greatest: 4_294_967_295,
@@ -51,17 +51,15 @@ const CONNECTS: NumberRange = NumberRange {
     greatest: 65_535,
 };
 
-/// How many connections are kept for each job, where their number is not given.
+/// Idle connections for each job, by default.
 const CONNECTS_OF_A_JOB: u32 = 4;
 
-/// The most connections that are kept.
+/// Maximum number of idle connections.
 const MOST_CONNECTS: u32 = 65_535;
 
-/// The numbers that the words after `load` give: each is one or more decimal digits. Where one is
-/// not given it is 2 sites, 20 jobs, 4 workers, no limits, and four connections kept for each job,
-/// or 65,535 if that is less, or if words of [`MeasuredWords`] are given without a number of jobs.
-///
-/// [`MeasuredWords`]: crate::loading::measured::words::MeasuredWords
+/// Reads the six numbers among the words after `load`, each one or more decimal digits. The
+/// defaults are 2 sites, 20 jobs, 4 workers, no limits, and 4 idle connections for each job, at
+/// most 65,535; for a load with `--seconds` 65,535 idle connections.
 ///
 /// # Errors
 ///
@@ -101,13 +99,13 @@ fn jobs_range(words: &LoadWords) -> NumberRange
     }
 }
 
-// How many connections are kept for so many jobs, where their number is not given.
+// Returns the default number of idle connections for a load of `jobs` jobs.
 fn kept_for(words: &LoadWords, jobs: u32) -> u32
     requires { 0 < jobs }
     ensures kept { result ≡ kept_for (load_said_by words.now) jobs }
     ensures within { IsIn connects_range result }
 {
-    if words.measured.are_used() && words.jobs.is_none() {
+    if words.measured.seconds.is_some() {
         MOST_CONNECTS
     } else {
         jobs.saturating_mul(CONNECTS_OF_A_JOB).min(MOST_CONNECTS)

@@ -1,19 +1,19 @@
 //! The progress of a load, on standard error, and Ctrl-C.
 
 use crate::loading::interrupt::{interrupt_descriptor, is_interrupted};
-use load_run::{Seen, Watch};
+use load_run::Seen;
 use std::io::{IsTerminal, Write};
 use std::sync::atomic::{AtomicBool, AtomicU64, Ordering};
 
-/// How often it is drawn, in microseconds.
+/// Time between two drawings, in microseconds.
 const DRAWN_MICROS: u64 = 200_000;
 
-/// What draws how far a load is, and ends it at Ctrl-C.
+/// Draws the progress of a load, and notes Ctrl-C.
 #[derive(Drop)]
 pub(crate) struct ProgressLine<'a> {
     system: &'a HostRuntime,
     is_shown: bool,
-    /// When it was drawn last, in microseconds after the start; 0 if it was not.
+    /// The moment of the last drawing, in microseconds after the start; 0 if there was none.
     drawn: AtomicU64,
     /// The descriptor of the launcher's pipe.
     interrupt: Option<i32>,
@@ -21,7 +21,8 @@ pub(crate) struct ProgressLine<'a> {
 }
 
 impl<'a> ProgressLine<'a> {
-    /// Not drawn yet; it is only if it is to be shown, and standard error is a terminal.
+    /// Makes a progress line. It is drawn only if it is to be shown, and standard error is a
+    /// terminal.
     pub(crate) fn new(system: &'a HostRuntime, is_shown: bool) -> ProgressLine<'a> {
         ProgressLine {
             system,
@@ -32,29 +33,20 @@ impl<'a> ProgressLine<'a> {
         }
     }
 
-    /// Whether Ctrl-C ended the load.
+    /// True if Ctrl-C was pressed.
     pub(crate) fn is_interrupted(&self) -> bool {
         self.is_interrupted.load(Ordering::SeqCst)
     }
 
-    /// Erases it.
+    /// Erases the progress line.
     pub(crate) fn erase(&self) {
         if self.drawn.load(Ordering::SeqCst) != 0 {
             let _ = eprint!(self.system; "\r\x1b[K");
         }
     }
-}
 
-impl Watch for ProgressLine<'_> {
-    ghost use Rattle.std.specs.Prelude.{⊤};
-
-    ghost may_end = { λ line. ⊤ };
-
-    fn is_over(&self) -> bool {
-        self.is_interrupted()
-    }
-
-    fn look(&self, seen: Seen) {
+    /// Checks for Ctrl-C, and draws the progress every 200 milliseconds.
+    pub(crate) fn look(&self, seen: Seen) {
         if is_interrupted(self.interrupt) {
             self.is_interrupted.store(true, Ordering::SeqCst);
         }

@@ -154,6 +154,16 @@ impl Account<'_> {
         sum
     }
 
+    /// Returns the words for opened, reused and closed connections in a trace, with their counts in
+    /// the report.
+    pub(crate) fn events(&self) -> [(&'static str, u64); 3] {
+        [
+            ("opened", self.all.opened),
+            ("leased", self.all.reused),
+            ("closed", self.all.closed),
+        ]
+    }
+
     /// Checks what holds of each load with these numbers, also of one whose jobs failed.
     pub(crate) fn check<R: Abort>(&self, rt: &R, options: &LoadOptions) {
         let sum = self.sum(rt, options);

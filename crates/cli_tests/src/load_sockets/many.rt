@@ -24,6 +24,8 @@ struct Row {
     sites: u32,
     workers: u32,
     connections: u32,
+    /// Maximum number of open connections; 0 means no limit.
+    total: u32,
     jobs: Option<u64>,
     /// For how many seconds after the warm-up, of how many seconds.
     seconds: Option<u32>,
@@ -42,6 +44,7 @@ const UNTIMED: Row = Row {
     sites: 1,
     workers: 2,
     connections: 4,
+    total: 0,
     jobs: None,
     seconds: None,
     warmup: 0,
@@ -108,7 +111,7 @@ fn load_at<R: Threads + Wait + RandomSource + AllocGlobal + Sync + Abort>(
     let alloc = rt.alloc();
     let urls = urls_at(alloc, ports)?;
     let plan = ManyPlan {
-        limits: Limits::new(0, 0, 1_000).expect(rt, "limits"),
+        limits: Limits::new(0, row.total, 1_000).expect(rt, "limits"),
         hosts: u32::try_from(ports.len()).unwrap_or(u32::MAX),
         addresses: addresses_at(alloc, ports, row.workers)?,
         urls: &urls,
@@ -121,7 +124,6 @@ fn load_at<R: Threads + Wait + RandomSource + AllocGlobal + Sync + Abort>(
             timeout: row.timeout,
         },
         fails_statuses: false,
-        keeps_logs: false,
     };
     match load_many(rt, system, alloc, plan, &Unwatched) {
         Ok(loaded) => Ok(loaded),
@@ -129,7 +131,7 @@ fn load_at<R: Threads + Wait + RandomSource + AllocGlobal + Sync + Abort>(
     }
 }
 
-// How many requests came, of all sites.
+// Returns the number of requests at all sites.
 fn sum_of(requests: &[u64]) -> u64 {
     let mut sum = 0u64;
     for count in requests {
@@ -138,27 +140,55 @@ fn sum_of(requests: &[u64]) -> u64 {
     sum
 }
 
-// Carries out the load while a server serves: what it leaves, and how many requests came.
-fn load_beside<R: Threads + Wait + RandomSource + AllocGlobal + Sync + Abort>(
+// Returns the number of jobs at a site. Job K is at site K modulo the number of sites.
+fn share_of(jobs: u64, sites: u32, site: u64) -> u64 {
+    let sites = sites as u64;
+    jobs.saturating_add(sites).saturating_sub(site + 1) / sites.max(1)
+}
+
+// Runs the load beside a server, and returns its result and the number of requests at each site.
+fn load_served<R: Threads + Wait + RandomSource + AllocGlobal + Sync + Abort>(
     rt: &R,
     system: &HostRuntime,
     row: &Row,
-) -> io::Result<(LoadedMany, u64)> {
+) -> io::Result<(LoadedMany, Vec<u64>)> {
     let server = Server::listen(system, rt.alloc(), row.sites)?;
     let mut ports = Vec::new(rt.alloc());
     ports.extend_from_slice(server.ports())?;
     let ended = AtomicBool::new(false);
-    thread::scope(scope_env(), rt, |scope| -> io::Result<(LoadedMany, u64)> {
-        let serving = Builder::new().spawn_scoped(scope, || server.serve(rt, &ended))?;
-        let loaded = load_at(rt, system, &ports, row);
-        ended.store(true, Ordering::SeqCst);
-        let requests = serving.join(rt)?;
-        Ok((loaded?, sum_of(&requests)))
-    })
+    thread::scope(
+        scope_env(),
+        rt,
+        |scope| -> io::Result<(LoadedMany, Vec<u64>)> {
+            let serving = Builder::new().spawn_scoped(scope, || server.serve(rt, &ended))?;
+            let loaded = load_at(rt, system, &ports, row);
+            ended.store(true, Ordering::SeqCst);
+            let requests = serving.join(rt)?;
+            Ok((loaded?, requests))
+        },
+    )
 }
 
 /// Loads of the server.
-static ROWS: [Row; 4] = [
+static ROWS: [Row; 6] = [
+    Row {
+        sites: 8,
+        workers: 8,
+        connections: 8,
+        total: 3,
+        jobs: Some(203),
+        requests: (203, 203),
+        ..UNTIMED
+    },
+    Row {
+        sites: 2,
+        workers: 3,
+        connections: 3,
+        total: 1,
+        jobs: Some(30),
+        requests: (30, 30),
+        ..UNTIMED
+    },
     Row {
         sites: 2,
         connections: 8,
@@ -191,7 +221,8 @@ static ROWS: [Row; 4] = [
 #[test]
 fn figures_and_account_are_those_of_the_server(rt: HostRuntime) {
     for row in &ROWS {
-        let (loaded, served) = load_beside(&rt, &rt, row).expect(&rt, "memory");
+        let (loaded, requests) = load_served(&rt, &rt, row).expect(&rt, "memory");
+        let served = sum_of(&requests);
         let all = loaded.figures.all();
         let (good, stopped) = (all.good, all.stopped);
         let (least, most) = row.requests;
@@ -215,6 +246,25 @@ fn figures_and_account_are_those_of_the_server(rt: HostRuntime) {
 }
 
 #[test]
+fn each_site_gets_the_requests_of_its_jobs(rt: HostRuntime) {
+    for row in &ROWS {
+        let Some(jobs) = row.jobs else {
+            continue;
+        };
+        let (loaded, requests) = load_served(&rt, &rt, row).expect(&rt, "memory");
+        let retried = loaded.figures.all().retried;
+        for (site, count) in requests.iter().enumerate() {
+            let share = share_of(jobs, row.sites, site as u64);
+            let most = share.saturating_add(retried);
+            assert!(rt;
+                share <= *count && *count <= most,
+                "{row:?}: {site}: {count}"
+            );
+        }
+    }
+}
+
+#[test]
 fn no_job_begins_before_it_is_due(rt: HostRuntime) {
     let row = Row {
         connections: 8,
@@ -224,7 +274,8 @@ fn no_job_begins_before_it_is_due(rt: HostRuntime) {
         requests: (0, 402),
         ..UNTIMED
     };
-    let (loaded, served) = load_beside(&rt, &rt, &row).expect(&rt, "memory");
+    let (loaded, requests) = load_served(&rt, &rt, &row).expect(&rt, "memory");
+    let served = sum_of(&requests);
     let good = loaded.figures.all().good;
     let (least, most) = row.requests;
     assert!(rt; least <= good && good <= most, "{good}");

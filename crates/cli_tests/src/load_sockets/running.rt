@@ -21,8 +21,12 @@ fn add_word(alloc: Global, words: &mut Vec<String>, word: &str) -> Result<(), Al
     Ok(())
 }
 
-// The words after the program's name, of a text with spaces between them.
-fn words(alloc: Global, text: &str) -> Result<Words, AllocError> {
+/// The words after the program's name, of a text with spaces between them.
+///
+/// # Errors
+///
+/// There is no memory for them.
+pub(crate) fn words(alloc: Global, text: &str) -> Result<Words, AllocError> {
     let mut words = Vec::new(alloc);
     add_word(alloc, &mut words, "curlpool")?;
     for word in text.split_whitespace() {

@@ -1,5 +1,6 @@
-//! Traces of loads: an audit finds each lawful.
+//! Traces of loads are lawful, and have the events that the report counts.
 
+use crate::load_sockets::account::account_of;
 use crate::load_sockets::running::run_words;
 use std::fs;
 use std::str::from_utf8;
@@ -46,5 +47,31 @@ fn traces_are_lawful(rt: HostRuntime) {
         assert_eq!(rt; audited.status, 0, "{words}");
     }
     let removed = fs::remove_file(&rt, FILE);
+    assert!(rt; removed.is_ok());
+}
+
+/// The file for a trace that is written in several parts.
+const LONG_FILE: &str = "long-load.trace";
+
+#[test]
+fn a_trace_has_what_is_cut_during_a_load(rt: HostRuntime) {
+    let load = "load --sites 3 --seconds 1 --rate 300 --quiet";
+    let words = format!(in rt.alloc(); "{load} --trace {LONG_FILE}").expect(&rt, "memory");
+    let loaded = run_words(&rt, &rt, words.as_str()).expect(&rt, "memory");
+    assert_eq!(rt; loaded.status, 0, "{words}");
+    let report = from_utf8(loaded.output.as_slice()).expect(&rt, "a text");
+    let account = account_of(report, 3).expect(&rt, "a report");
+    let trace = fs::read_to_string(&rt, LONG_FILE).expect(&rt, "a trace");
+    for (event, count) in &account.events() {
+        let lines = trace.as_str().lines();
+        let count_in_trace = lines
+            .filter(|line| line.split(' ').next() == Some(*event))
+            .count();
+        assert_eq!(rt; count_in_trace as u64, *count, "{event}: {report}");
+    }
+    let audit = format!(in rt.alloc(); "audit {LONG_FILE}").expect(&rt, "memory");
+    let audited = run_words(&rt, &rt, audit.as_str()).expect(&rt, "memory");
+    assert_eq!(rt; audited.status, 0, "{words}");
+    let removed = fs::remove_file(&rt, LONG_FILE);
     assert!(rt; removed.is_ok());
 }

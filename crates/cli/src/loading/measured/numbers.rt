@@ -3,15 +3,15 @@
 ghost use Rattle.std.specs.Prelude.{◌≡◌, ◌≤◌, None, Some, IfOk, IfErr, option_map, string_bytes};
 ghost use Rattle.clap.specs.Words.{kind_of};
 ghost use Rattle.cli.specs.LoadWords.{IsOutside, IsWhyNot, number_in};
-ghost use Rattle.cli.specs.MeasuredPlan.{AreNumbersOf, IsNoPercent, IsNumberOutside};
-ghost use Rattle.cli.specs.MeasuredPlan.{decimals_in, percent_in, percent_with, said_or};
-ghost use Rattle.cli.specs.MeasuredPlan.{timeout_otherwise};
+ghost use Rattle.cli.specs.LoadRequests.{AreNumbersOf, IsNoPercent, IsNumberOutside};
+ghost use Rattle.cli.specs.LoadRequests.{decimals_in, percent_in, percent_with, said_or};
+ghost use Rattle.cli.specs.LoadRequests.{timeout_otherwise};
 ghost use Rattle.cli.specs.MeasuredWords.{measured_said_by};
 
 use crate::command_line::values::number_of;
-use crate::loading::measured::plan::MeasuredNumbers;
 use crate::loading::measured::words::MeasuredWords;
 use crate::loading::numbers::{NUMBER, number_or, refusal};
+use crate::loading::plan::MeasuredNumbers;
 use crate::loading::range::NumberRange;
 use clap::Error;
 use clap::error::ErrorKind;

@@ -1,14 +1,14 @@
 //! The words of a measured load.
 
-ghost use Rattle.std.specs.Prelude.{◌≡◌, IfOk};
+ghost use Rattle.std.specs.Prelude.{◌≡◌, not, IfOk};
 ghost use Rattle.clap.specs.Words.{found_of, rows_of};
 ghost use Rattle.cli.specs.MeasuredWords.{asks_measured, has_flag, has_list, has_value};
 ghost use Rattle.cli.specs.MeasuredWords.{measured_said_by, measured_said_in};
-ghost use Rattle.cli.specs.MeasuredPlan.{flags_said};
+ghost use Rattle.cli.specs.LoadRequests.{flags_said};
 
 use crate::command_line::values::{is_set, owned};
 use crate::get::words::all_owned;
-use crate::loading::measured::plan::MeasuredFlags;
+use crate::loading::plan::MeasuredFlags;
 use clap::ArgMatches;
 use std::alloc::{AllocError, Global};
 
@@ -49,11 +49,11 @@ pub struct MeasuredWords {
 }
 
 impl MeasuredWords {
-    /// Whether one of them was given.
-    pub fn are_used(&self) -> bool
-        ensures { result ≡ asks_measured (measured_said_by self.now) }
+    /// True if none of them was given.
+    pub fn is_empty(&self) -> bool
+        ensures { result ≡ not (asks_measured (measured_said_by self.now)) }
     {
-        self.has_list() || self.has_value() || self.has_flag()
+        !(self.has_list() || self.has_value() || self.has_flag())
     }
 
     /// The flags that were given.
