@@ -215,7 +215,7 @@ impl Schedule {
         self.seats.len().saturating_add(self.site_count)
     }
 
-    /// A new transfer stands at the place, which is polled in the next round to begin.
+    /// Records that a new transfer joins at the place. It is polled in the next round to begin.
     pub(crate) fn joins(&mut self, place: usize)
         requires { place < key_limit self.old.lists }
         ensures { Becomes self.old.lists self.new.lists place IsDueList }
@@ -226,7 +226,7 @@ impl Schedule {
         self.becomes_due(place);
     }
 
-    // The place is polled in the next round to begin.
+    // Puts the place into the list for the next round to begin.
     fn becomes_due(&mut self, place: usize)
         requires { place < key_limit self.old.lists }
         ensures { Becomes self.old.lists self.new.lists place IsDueList }
@@ -384,9 +384,9 @@ impl Schedule {
         }
     }
 
-    /// The dial tells of the transfer at that place. One that is parked is polled in the next round
-    /// to begin. What is told of a transfer that stood there before, or of one that waits for a
-    /// connection, says nothing.
+    /// Records that the dial reports the transfer at that place as ready. A parked transfer is
+    /// polled in the next round to begin. A report of an earlier transfer there, or of a transfer
+    /// that waits for a connection, has no effect.
     pub(crate) fn note_ready(&mut self, told: Place)
         ensures wakes { Wakes self.old.lists self.new.lists }
         ensures limit { key_limit self.new.lists ≡ key_limit self.old.lists }
@@ -401,7 +401,8 @@ impl Schedule {
         }
     }
 
-    /// The dial can't tell: each place that is parked is polled in the next round to begin.
+    /// Records that any transfer may be ready: each parked transfer is polled in the next round to
+    /// begin.
     pub(crate) fn note_all_ready(&mut self)
         ensures wakes { Wakes self.old.lists self.new.lists }
         ensures limit { key_limit self.new.lists ≡ key_limit self.old.lists }

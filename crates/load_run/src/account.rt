@@ -18,7 +18,7 @@ use shared_cache::{Names, discard_all};
 use socket::PolledDial;
 use std::alloc::Global;
 
-/// The figures and passes that a load's threads hand back.
+/// The figures and passes that a load's threads return.
 pub(crate) struct Collected {
     /// The figures of all threads.
     pub(crate) figures: Figures,

@@ -56,7 +56,7 @@ impl Counting<'_> {
     }
 }
 
-/// The counter for the results of one thread of a load. It leaves out those of the warm-up.
+/// The counter for the results of one thread of a load, without the results of the warm-up.
 #[derive(Drop)]
 pub(crate) struct CountedResults<'a> {
     pub(crate) figures: Figures,

@@ -25,9 +25,9 @@ pub trait Timer: MicroClock {
     ghost may_stop: { Self → ℕ → Type 0 };
 
     /// True if the job of that number is to be stopped: it has reached its time limit at `now`, or
-    /// its result is no longer wanted. `began` is the moment at which it began, later by the time for
-    /// which the loop was held up since then. `now` is a moment before the last turn of the dial:
-    /// all bytes that had arrived by then have been read.
+    /// its result is no longer wanted. `began` is the moment at which it began, delayed by the time
+    /// for which the loop was held up since then. `now` is a moment before the last turn of the
+    /// dial: all bytes that had arrived by then have been read.
     fn stops(&self, number: u64, began: u64, now: u64) -> bool
         ensures { OnTrue result (may_stop self.now number) };
 

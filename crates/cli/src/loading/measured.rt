@@ -1,4 +1,4 @@
-//! The options of a load beside its six numbers, and their numbers.
+//! The options of a load other than its six numbers, and their values.
 
 pub(crate) mod numbers;
 pub(crate) mod words;

@@ -16,7 +16,8 @@ pub struct LoadPlan {
     pub flags: MeasuredFlags,
     /// Its URLs, at most eight. Without URLs, the load starts a server and requests that.
     pub urls: Vec<String>,
-    /// Its requests, used in turn. Sites are numbered in the order in which requests name them first.
+    /// Its requests, sent round robin. Sites are numbered in the order in which the requests name
+    /// them first.
     pub jobs: Vec<Job>,
     /// The addresses given for hosts.
     pub resolved: Vec<Resolved>,

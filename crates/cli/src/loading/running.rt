@@ -96,7 +96,7 @@ fn lacks_jobs(plan: &LoadPlan, loaded: &LoadedMany) -> bool
         && loaded.figures.all().done() != options.jobs as u64
 }
 
-// Draws the picture, and makes the outcome. `trace` tells whether the trace was written.
+// Draws the picture, and returns the outcome. `trace` is the result of writing the trace.
 fn written(
     alloc: Global,
     plan: &LoadPlan,

@@ -146,7 +146,8 @@ fn share_of(jobs: u64, sites: u32, site: u64) -> u64 {
     jobs.saturating_add(sites).saturating_sub(site + 1) / sites.max(1)
 }
 
-// Runs the load beside a server, and returns its result and the number of requests at each site.
+// Runs a load of a server in this process. Returns its result and the number of requests at each
+// site.
 fn load_served<R: Threads + Wait + RandomSource + AllocGlobal + Sync + Abort>(
     rt: &R,
     system: &HostRuntime,

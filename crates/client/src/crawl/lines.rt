@@ -181,7 +181,7 @@ fn piece(alloc: Global) -> Result<Vec<u8>, AllocError>
     vec![in alloc; 0; PIECE]
 }
 
-// Returns what a line without its line feed is: a URL, a bad line, or one that is skipped.
+// Classifies a line without its line feed: a URL, a bad line, or a line that is skipped.
 fn classify_line(alloc: Global, line: &[u8], number: u64) -> Result<Line, AllocError>
     ensures urls { IfOk result (λ one. urls_returned one ≡ Some (urls_on line.now)) }
     ensures class { IfOk result (IsClassOf (strip_carriage_return line.now)) }
