@@ -7,7 +7,7 @@ use Rattle.job_counter.specs.Draws.{AreFirst, times}
 times_more : (n x : ℕ) (xs : List ℕ) → times n (x ∷ xs) ≡ cond (n == x) 1 0 + times n xs
 times_more n x xs = sum_by-cons (λ m. cond (n == m) 1 0) x xs
 
--- how often the numbers below a limit are in a list
+-- number of occurrences of the numbers below a limit in a list
 times_below : ℕ → List ℕ → ℕ
 times_below zero numbers = 0
 times_below (suc limit) numbers = times limit numbers + times_below limit numbers

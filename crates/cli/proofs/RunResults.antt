@@ -75,8 +75,8 @@ takes_one number done span results old new takes plain cold so_far = by_start (h
         (subst (λ (c : JobCounts). Tallies (done ∷ results) c) (sym counts.figures.all) any, counts.counting)
 
 -- all results of a thread
-thread_counted : (is_reading : ℕ → Type 0) (begun : _) (ended : _) (told : List JobResult) → AllTaken (TakesTimed is_reading Takes) begun ended told → begun.figures.all ≡ no_job → begun.counting.fails_statuses ≡ false → warm_of begun.counting.times ≡ 0
-    → Tallies (ends_in (ends_of told)) ended.figures.all × (ended.counting ≡ begun.counting)
+thread_counted : (is_reading : ℕ → Type 0) (begun : _) (ended : _) (results : List JobResult) → AllTaken (TakesTimed is_reading Takes) begun ended results → begun.figures.all ≡ no_job → begun.counting.fails_statuses ≡ false → warm_of begun.counting.times ≡ 0
+    → Tallies (ends_in (ends_of results)) ended.figures.all × (ended.counting ≡ begun.counting)
 thread_counted is_reading begun ended [] taken none plain cold =
     let same : no_job ≡ ended.figures.all = rw taken (sym none) in
     (subst (Tallies []) same tallies_none, rw taken refl)

@@ -1,4 +1,4 @@
--- The requests of a load, by its options beside the six numbers, and the values that are refused.
+-- The requests of a load, its options other than the six numbers, and the values that are refused.
 use Rattle.std.specs.Prelude.{◌≡◌, ◌⊎◌, ◌≤◌, ◌<◌, ◌+◌, ◌*◌, ◌^◌, ◌==◌, ℕ, Bool, false, nat_le, nat_lt, codes, List, [], ◌∷◌, length, Option, None, Some, if◌then◌else◌}
 use Rattle.std.specs.List.{Any, before_first, after_first, position_or_len}
 use Rattle.std.specs.Option.{option_and_then, option_map}

@@ -6,7 +6,7 @@ use Rattle.conn_log.specs.declared.entry.Event.TheVariants.{Opened}
 use Rattle.conn_log.proofs.Logs.{reverse_take_more}
 use Rattle.log_trace.specs.Lines.{lines_of, part_lines}
 
--- what a loop over entries reads past their end
+-- the default entry of a loop over entries, past their end
 abbrev pub no_entry : Entry
 no_entry = record { moment = 0; event = Opened 0 (record { transfer = 0; max_age = 0; max_life = 0; lane = 0; fresh = false; forbid_reuse = false }) }
 

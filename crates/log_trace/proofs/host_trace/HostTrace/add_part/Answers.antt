@@ -19,9 +19,9 @@ loop-entry-preserved c =
       host = search rules;
       written = λ before are.
           let log = reverse (take k part) ++ before in
-          let told = c.in_ok-add_entry.ensures log (c.loop-entry.invariant.uses before are) in
+          let added = c.in_ok-add_entry.ensures log (c.loop-entry.invariant.uses before are) in
           entry_written host before (string_bytes c.args.text.now) now (string_bytes c.add_entry.new.text) part k no_entry c.loop-entry-test.true (c.loop-entry.invariant.written before are)
-          (told ∙ ap (λ h. now ++ lines_of h log e) c.loop-entry.invariant.host);
+          (added ∙ ap (λ h. now ++ lines_of h log e) c.loop-entry.invariant.host);
       uses = λ before are.
           let so_far = c.loop-entry.invariant.uses before are in
           subst (λ (log : List Entry). AreUsesOf log c.add.new.self) (sym (log_so_far before part k no_entry c.loop-entry-test.true))
