@@ -5,6 +5,7 @@ mod gathering;
 mod job_source;
 mod listed_jobs;
 mod loop_states;
+mod loops_with_waiters;
 mod run_timer;
 mod running;
 mod storage;

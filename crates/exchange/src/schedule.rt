@@ -122,7 +122,7 @@ pub(crate) struct Schedule {
     is_odd: bool,
     // A round has begun, and not ended.
     is_in_round: bool,
-    // A lease or a ticket was spent since the sites were asked.
+    // A waiter may have been granted a connection since the sites were asked.
     is_to_ask: bool,
     // One was since the slab's owner asked.
     has_spent: bool,
@@ -317,13 +317,21 @@ impl Schedule {
         self.lists.unlink(place);
     }
 
-    /// Notes whether a lease or a ticket was spent: then a transfer that waits may have been
-    /// granted a connection, at any site.
+    /// Records whether a lease or a ticket was spent: then a waiter of any site may have been
+    /// granted a connection.
     pub(crate) fn note_spent(&mut self, has_spent: bool)
         ensures { self.new.lists ≡ self.old.lists }
     {
         self.has_spent |= has_spent;
-        self.is_to_ask |= has_spent;
+        self.is_to_ask |= has_spent && self.has_waiters();
+    }
+
+    /// True if a transfer waits for a connection at a site that has a list. It may stay true after
+    /// the last wait, until the sites are asked.
+    pub(crate) fn has_waiters(&self) -> bool {
+        self.sites.front(QUIET).is_some()
+            || self.sites.front(ASKED_EVEN).is_some()
+            || self.sites.front(ASKED_ODD).is_some()
     }
 
     // Puts the place behind all others of that list.
@@ -415,11 +423,11 @@ impl Schedule {
         }
     }
 
-    /// A transfer that waits may have been granted a connection, at any site.
+    /// A waiter of any site may have been granted a connection.
     pub(crate) fn ask_sites(&mut self)
         ensures { self.new.lists ≡ self.old.lists }
     {
-        self.is_to_ask = true;
+        self.is_to_ask |= self.has_waiters();
     }
 
     /// Whether a lease or a ticket was spent since the last call.

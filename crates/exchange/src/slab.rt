@@ -467,6 +467,13 @@ impl<W: Wire> Slab<W> {
         self.schedule.take_spent()
     }
 
+    /// True if a transfer waits for a connection at a site below the number of sites that the slab
+    /// was made for. It may stay true after the last wait, until [`Slab::ask_sites`]. No contract
+    /// speaks of it.
+    pub fn has_waiters(&self) -> bool {
+        self.schedule.has_waiters()
+    }
+
     /// How many transfers had their connection after a wait, and went on, since the last call.
     pub fn take_granted(&mut self) -> u64
         ensures slots { self.new.slots ≡ self.old.slots }

@@ -465,6 +465,83 @@ fn a_job_over_its_limit_is_cancelled(rt: HostRuntime) {
     }
 }
 
+/// It stands still, and counts how often the loop came to have waiters, and to have none.
+#[derive(Drop)]
+struct Noted {
+    began: AtomicU64,
+    ended: AtomicU64,
+}
+
+impl Clock for Noted {
+    ghost use Rattle.std.specs.Prelude.{⊤};
+
+    ghost tells = { λ noted moment. ⊤ };
+
+    fn now(&self) -> u64 {
+        7
+    }
+
+    fn micros(&self) -> u64 {
+        0
+    }
+}
+
+impl MicroClock for Noted {
+    ghost use Rattle.std.specs.Prelude.{⊤};
+
+    ghost tells_micros = { λ clock moment. ⊤ };
+
+    fn moment(&self) -> u64 {
+        self.micros()
+    }
+}
+
+impl Timer for Noted {
+    ghost may_stop = { λ noted job. ⊥ };
+
+    fn stops(&self, _number: u64, _began: u64, _now: u64) -> bool {
+        false
+    }
+
+    fn is_over(&self) -> bool {
+        false
+    }
+
+    fn note_waiters(&self, has_waiters: bool) {
+        let count = if has_waiters {
+            &self.began
+        } else {
+            &self.ended
+        };
+        count.fetch_add(1, Ordering::SeqCst);
+    }
+}
+
+/// Maximum number of connections to the host, and whether one of two transfers has to wait.
+static WAITS: [(u32, bool); 2] = [(1, true), (2, false)];
+
+#[test]
+fn a_loop_records_whether_it_has_waiters(rt: HostRuntime) {
+    for (limit, waits) in &WAITS {
+        let mut dial = slow_dial(&rt);
+        let timer = Noted {
+            began: AtomicU64::new(0),
+            ended: AtomicU64::new(0),
+        };
+        let task = Solo::new(&rt, Doorbell::spinning()).expect(&rt, "a task");
+        let mut pool = pool_of(&rt, *limit);
+        let mut jobs = Listed::new(&rt, 4);
+        let mut report = Report::new(rt.alloc());
+        let places = RunLoop::new(rt.alloc(), 2, 1, task).expect(&rt, "memory");
+        let end = places.run(&rt, &mut pool, &mut dial, &mut jobs, &mut report, &timer);
+        check_eq(&rt, end, RunEnd::Complete);
+        check_eq(&rt, report.lines, 4);
+        let began = timer.began.load(Ordering::SeqCst);
+        check_eq(&rt, began > 0, *waits);
+        check_eq(&rt, timer.ended.load(Ordering::SeqCst), began);
+    }
+}
+
 /// A report whose output blocks for two seconds at each line.
 #[derive(Drop)]
 struct Blocking<'a> {

@@ -56,6 +56,8 @@ pub struct RunLoop<W: Wire> {
     task: Solo,
     // Number of rings that were heard.
     heard: u64,
+    // The timer knows that transfers wait for connections.
+    has_waiters: bool,
     late: LateGrants,
     // Number of rounds since the last turn of the dial, beside the first one.
     rounds: u32,
@@ -135,6 +137,7 @@ impl<W: Wire> RunLoop<W> {
             spares,
             task,
             heard: 0,
+            has_waiters: false,
             late: LateGrants::new(),
             rounds: 0,
             turned: 0,
@@ -210,6 +213,7 @@ impl<W: Wire> RunLoop<W> {
         run.drop_early(end, cache, jobs, results, timer);
         run.close_all(end, cache, dial, jobs, results, timer);
         let _ = timer.ring(run.heard);
+        run.set_waiters(timer, false);
         timer.fall_asleep();
         run.destroy_empty();
         end
@@ -228,6 +232,7 @@ impl<W: Wire> RunLoop<W> {
             spares: _,
             task: _,
             heard: _,
+            has_waiters: _,
             late: _,
             rounds: _,
             turned: _,
@@ -598,6 +603,8 @@ impl<W: Wire> RunLoop<W> {
         ensures begins { self.new.begins ≡ self.old.begins }
     {
         self.tell_spent(timer);
+        let has_waiters = self.slab.has_waiters();
+        self.set_waiters(timer, has_waiters);
         if self.rounds < MORE_ROUNDS && self.goes_on(next) {
             self.rounds += 1;
             return Turned::Done;
@@ -648,6 +655,20 @@ impl<W: Wire> RunLoop<W> {
         }
         self.hear(rings);
         turned
+    }
+
+    // Records whether transfers wait for connections. Once some do, the first one at each site asks
+    // again: a grant before the record may have had no ring.
+    fn set_waiters<T: Timer>(&mut self, timer: &T, has_waiters: bool)
+        ensures slots { self.new.slab.slots ≡ self.old.slab.slots }
+        ensures begins { self.new.begins ≡ self.old.begins }
+    {
+        if has_waiters == self.has_waiters {
+            return;
+        }
+        self.has_waiters = has_waiters;
+        timer.note_waiters(has_waiters);
+        self.slab.ask_sites();
     }
 
     // Rings the bell if leases or tickets were spent since the last call.

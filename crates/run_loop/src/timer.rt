@@ -49,16 +49,27 @@ pub trait Timer: MicroClock {
 
     /// Rings that bell, after leases or tickets were spent in this loop, which has heard `heard`
     /// rings. Returns the number that it has heard then: its own ring is included, unless another
-    /// loop rang in between.
+    /// loop rang in between. It need not ring while no loop has waiters.
     fn ring(&self, heard: u64) -> u64 {
         heard
     }
+
+    /// Records whether transfers of this loop wait for connections. The loop calls it when that
+    /// changes. Its first waiter at each site then checks again whether it has its connection: one
+    /// that was granted before the call may have had no ring.
+    fn note_waiters(&self, _has_waiters: bool) {}
 
     /// Lets the bell end the turn of the loop's dial from now on.
     fn fall_asleep(&self) {}
 
     /// Stops the bell from ending turns. Returns true if it ended one, or is about to.
     fn wake_up(&self) -> bool {
+        false
+    }
+
+    /// True if it counts the late grants that [`Timer::note_late`] records. The loops of a run then
+    /// count who is awake, which costs several shared steps a turn.
+    fn counts_late_grants(&self) -> bool {
         false
     }
 

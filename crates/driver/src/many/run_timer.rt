@@ -3,6 +3,7 @@
 use crate::bell::Bell;
 use crate::faults::Faults;
 use crate::many::loop_states::LoopStates;
+use crate::many::loops_with_waiters::LoopsWithWaiters;
 use exchange::{Alarm, Clock};
 use run_loop::{MicroClock, Timer};
 use std::sync::atomic::{AtomicU64, Ordering};
@@ -14,6 +15,7 @@ pub(crate) struct RunTimer<'a, T: Timer, A: Alarm> {
     pub(crate) timer: &'a T,
     pub(crate) faults: &'a Faults,
     pub(crate) bell: &'a Bell,
+    pub(crate) waiters: &'a LoopsWithWaiters,
     pub(crate) states: &'a LoopStates,
     /// Of each worker, as far as their dials have some.
     pub(crate) alarms: &'a [A],
@@ -24,6 +26,13 @@ pub(crate) struct RunTimer<'a, T: Timer, A: Alarm> {
 }
 
 impl<'a, T: Timer, A: Alarm> RunTimer<'a, T, A> {
+    // Counts that the loop has woken up. Returns true if another one rings now.
+    fn note_woken(&self) -> bool {
+        self.woken.fetch_add(1, Ordering::SeqCst);
+        self.states.wake_up();
+        self.states.is_ringing()
+    }
+
     // Ends the turns of all others that sleep.
     fn wake_others(&self) {
         for (number, alarm) in self.alarms.iter().enumerate() {
@@ -74,10 +83,18 @@ impl<'a, T: Timer, A: Alarm> Timer for RunTimer<'a, T, A> {
     }
 
     fn ring(&self, heard: u64) -> u64 {
-        self.states.begin_ring();
+        if !self.waiters.is_any() {
+            return heard;
+        }
+        let counts = self.timer.counts_late_grants();
+        if counts {
+            self.states.begin_ring();
+        }
         let before = self.bell.ring();
         self.wake_others();
-        self.states.end_ring();
+        if counts {
+            self.states.end_ring();
+        }
         if before == heard {
             heard.wrapping_add(1)
         } else {
@@ -85,17 +102,25 @@ impl<'a, T: Timer, A: Alarm> Timer for RunTimer<'a, T, A> {
         }
     }
 
+    fn note_waiters(&self, has_waiters: bool) {
+        self.waiters.note(has_waiters);
+    }
+
+    fn counts_late_grants(&self) -> bool {
+        self.timer.counts_late_grants()
+    }
+
     fn fall_asleep(&self) {
         if let Some(alarm) = self.alarms.get(self.own) {
             alarm.fall_asleep();
         }
-        self.states.fall_asleep();
+        if self.timer.counts_late_grants() {
+            self.states.fall_asleep();
+        }
     }
 
     fn wake_up(&self) -> bool {
-        self.woken.fetch_add(1, Ordering::SeqCst);
-        self.states.wake_up();
-        let is_ringing = self.states.is_ringing();
+        let is_ringing = self.timer.counts_late_grants() && self.note_woken();
         match self.alarms.get(self.own) {
             Some(alarm) => alarm.wake_up() || is_ringing,
             None => is_ringing,

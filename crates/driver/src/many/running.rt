@@ -19,6 +19,7 @@ use crate::many::drawn_jobs::DrawnJobs;
 use crate::many::gathering::gather_work;
 use crate::many::job_source::JobSource;
 use crate::many::loop_states::LoopStates;
+use crate::many::loops_with_waiters::LoopsWithWaiters;
 use crate::many::run_timer::RunTimer;
 use crate::many::storage::{ManyStorage, hire_all};
 use crate::many::worker::{Finished, LoopWorker, Ready, Tools, WorkerResult};
@@ -64,6 +65,7 @@ pub(crate) struct Common<'s, S: JobSource, T: Timer> {
     pub(crate) source: &'s S,
     pub(crate) timer: &'s T,
     pub(crate) bell: Bell,
+    pub(crate) waiters: LoopsWithWaiters,
     pub(crate) states: LoopStates,
     pub(crate) faults: Faults,
 }
@@ -72,9 +74,9 @@ pub(crate) struct Common<'s, S: JobSource, T: Timer> {
 /// of the tools has a worker, in a thread of its own if one can be started, and an even share of
 /// the places. A worker draws the number of a job if a place is free and the job is due.
 ///
-/// The alarms are those of the tools' dials, in the same order. A worker that gives up a lease or a
-/// ticket ends the turns of the others by them, so that their transfers ask at once; without an
-/// alarm they ask ten milliseconds later at most.
+/// The alarms are those of the tools' dials, in the same order. While transfers wait for
+/// connections, a worker that spends a lease or a ticket ends the turns of the others by them, so
+/// that their waiters ask at once; without an alarm they ask ten milliseconds later at most.
 ///
 /// # Errors
 ///
@@ -195,6 +197,7 @@ fn carry_all<
         source,
         timer,
         bell: Bell::new(),
+        waiters: LoopsWithWaiters::new(),
         states: LoopStates::new(workers.len() as u64),
         faults: Faults::new(),
     };
@@ -324,6 +327,7 @@ impl<W: Wire, D: Dial<W>, F: Results> Ready<W, D, F> {
             timer: common.timer,
             faults: &common.faults,
             bell: &common.bell,
+            waiters: &common.waiters,
             states: &common.states,
             alarms,
             own: alarm,

@@ -61,6 +61,10 @@ impl<'n> Timer for RunClock<'n> {
         false
     }
 
+    fn counts_late_grants(&self) -> bool {
+        true
+    }
+
     fn note_late(&self, grants: u64) {
         self.late.fetch_add(grants, Ordering::SeqCst);
     }
