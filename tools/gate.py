@@ -1,8 +1,9 @@
 """The gate's proofs, by `rt ci`, and the parts that run beside them on processors that it leaves idle.
 
 `Proving` is a run of `rt ci`: in a room that has the gate's crates, or at the top of the repository. The parts beside
-it are wrong bodies, tests that run unproved, and the names and types of benchmarks. Without such a run they take the
-libraries of a room that an earlier one left, or those that `rt lib` builds in place.
+it are wrong bodies, tests that run unproved, programs that are compiled without proofs, and the names and types of
+benchmarks. Without such a run they take the libraries of a room that an earlier one left, or those that `rt lib` builds
+in place.
 """
 import concurrent.futures
 import os
@@ -17,9 +18,9 @@ from kept_proofs import rt_module
 from lowering import CannotCompile
 from machine import free_bytes, processors
 from outcome import Outcome, sum_in
-from program import BENCHMARKS, NAME, TOP, TRIES, UNPROVED, Children, crates_below, needed
+from program import BENCHMARKS, TOP, UNPROVED, Children, crates_below, needed
 from room import Proofs, Spare, jobs_of_ci, most_bytes_together
-from unproved import Run, Unproved, copy_sources
+from unproved import Run, Unproved, copy_sources, stored_run
 
 # wrong bodies wait for whatever else there is to do; tests have time limits, so they are not to starve
 LEAST_PRIORITY, PRIORITY_OF_TESTS = 19, 5
@@ -177,27 +178,29 @@ class Tests:
 
 
 class Programs:
-    """The part `programs`: those that the other parts run, compiled without proofs and optimised. A folder gets links to
-    them."""
+    """The part `programs`: these, compiled without proofs and optimised, and the stored run of each. A folder gets links
+    to them."""
 
-    def __init__(self, spare, folder):
-        self.spare, self.folder = spare, folder
+    def __init__(self, libraries, crates, folder):
+        self.spare, self.crates, self.folder = libraries.spare, crates, folder
         self.children = Children()
 
     def of_crate(self, crate):
-        """Makes a program: a line if that fails, or nothing."""
+        """Makes a program, and runs it on its stored words: a line if that fails, or nothing."""
         try:
             with self.spare.processor(BYTES_OF_TESTS):
                 path = Kept(crate, self.children, is_quiet=True).made(OPTIMISED)
         except (CannotCompile, OSError) as fault:
             return f"failed  {crate}: {fault}"
         os.symlink(path, os.path.join(self.folder, crate))
-        return None
+        wrong = stored_run(crate, path)
+        return wrong and f"failed  {crate}: {wrong}"
 
     def run(self):
-        found = side_by_side(self.of_crate, [NAME, TRIES])
+        found = side_by_side(self.of_crate, self.crates)
         wrong = tuple(line for line in found if line)
-        return Outcome(len(found) - len(wrong), len(wrong), 0, wrong)
+        lines = (*wrong, *wrong_layouts(self.crates))
+        return Outcome(len(found) - len(wrong), len(lines), 0, lines)
 
 
 class Benchmarks:

@@ -11,7 +11,7 @@ import time
 TOP = os.path.dirname(os.path.dirname(os.path.abspath(__file__)))
 # of crates.txt: the start of each heading, and words of those whose crates the gate does not prove
 HEADING = "# === "
-UNPROVED, BENCHMARKS = "run unproved", "benchmarks"
+UNPROVED, COMPILED, BENCHMARKS = "run unproved", "compiled without proofs", "benchmarks"
 NAME = "pool_cli"
 FOLDER = os.path.join(TOP, "crates", NAME)
 BUILT = os.path.join(FOLDER, "out", NAME)
@@ -156,10 +156,28 @@ def given(name):
 
 @functools.cache
 def built_tries():
-    """The program tries, which is built first if it is missing or older than its sources. TRIES names another one that
-    is built already, or BUILT a folder that has it."""
-    found = os.environ.get("TRIES") or given(TRIES)
-    return found or built(TRIES, "run", TRIES, SHORT_RUN)
+    """The program tries, which is compiled first, without proofs, if it is missing or older than its sources
+    (tools/kept_programs.py). TRIES names another one, or BUILT a folder that has it."""
+    if os.environ.get("TRIES"):
+        return os.environ["TRIES"]
+    if os.environ.get("BUILT") and os.access(os.path.join(os.environ["BUILT"], TRIES), os.X_OK):
+        return os.path.join(os.environ["BUILT"], TRIES)
+    # these modules import this one
+    from kept_programs import OPTIMISED, Kept
+    from lowering import CannotCompile
+    if not has_rt():
+        sys.exit(1)
+    try:
+        return Kept(TRIES).made(OPTIMISED)
+    except (CannotCompile, OSError) as fault:
+        sys.exit(f"curlpool: cannot compile {TRIES}: {fault}")
+
+
+@functools.cache
+def proved_tries():
+    """The same program for measurements, which is proved first if it is missing or older than its sources. TRIES names
+    another one."""
+    return os.environ.get("TRIES") or built(TRIES, "run", TRIES, SHORT_RUN)
 
 
 @functools.cache

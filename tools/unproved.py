@@ -12,6 +12,7 @@ import itertools
 import os
 import re
 import shutil
+import subprocess
 import tempfile
 import threading
 
@@ -40,6 +41,23 @@ def read(path):
             return file.read()
     except FileNotFoundError:
         return b""
+
+
+def stored(top, crate):
+    """The stored words of a program, its input and output, and the status with which it has to end."""
+    args, stdin, stdout, status = (read(path_of(top, crate, name)) for name in ("args", "stdin", "stdout", "status"))
+    return args.decode(errors="surrogateescape").splitlines(), stdin, stdout, int(status or 0)
+
+
+def stored_run(crate, program):
+    """What is wrong with a program's run on its stored words, input and files, or nothing."""
+    words, stdin, stdout, status = stored(TOP, crate)
+    data = path_of(TOP, crate, "data")
+    done = subprocess.run([program, *words], input=stdin, stdout=subprocess.PIPE, timeout=SECONDS,
+                          cwd=data if os.path.isdir(data) else None)
+    if done.returncode != status:
+        return f"its stored run ended with status {done.returncode}, and not {status}"
+    return None if done.stdout == stdout else "its stored run writes something else than `stdout` has"
 
 
 def sources_of(crate):
@@ -159,16 +177,14 @@ class Unproved:
             return output, errors.read().decode(errors="replace")
 
     def run_program(self, run):
-        args, stdin, stdout, status = (
-            read(path_of(self.room, run.crate, name)) for name in ("args", "stdin", "stdout", "status"))
+        args, stdin, stdout, status = stored(self.room, run.crate)
         words, data = [], path_of(self.room, run.crate, "data")
         for folder, _, files in os.walk(data):
             for name in files:
                 path = os.path.join(folder, name)
                 words += ["--data", f"{os.path.relpath(path, data)}={path}"]
-        args = args.decode(errors="surrogateescape").splitlines()
         output, said = self.rt_try(run, [*words, "--", *args], stdin)
-        run.note_program(output, said, (stdout.decode(errors="replace"), int(status or 0)))
+        run.note_program(output, said, (stdout.decode(errors="replace"), status))
 
     def one(self, run):
         """Runs a crate's tests, and the program if it is one, and notes the results."""

@@ -9,7 +9,7 @@ import time
 from subprocess import DEVNULL
 from typing import NamedTuple
 
-from program import built_tries
+from program import proved_tries
 from real_servers.nginx import found, free_ports
 
 from .clients import COUNT_CALLS_TO, seconds_of_children
@@ -142,7 +142,7 @@ def show_late_grants(program, port):
 
 def many():
     need("wrk")
-    program = built_tries()
+    program = proved_tries()
     with nginx_by("") as port:
         show_beside_wrk(program, port)
         show_calls_of_many(program, port)

@@ -6,7 +6,7 @@ import statistics
 import threading
 import time
 
-from program import built_tries
+from program import proved_tries
 from real_servers.nginx import free_ports
 
 from .commands import PLAIN_CLEARS, need, run, show
@@ -89,7 +89,7 @@ def show_one_of_eight(program):
 def silent():
     need("strace")
     need("valgrind")
-    program = built_tries()
+    program = proved_tries()
     rows = []
     for places in PLACES:
         calls = calls_of_request(program, places)
