@@ -1,35 +1,47 @@
 -- The URLs of a plan: bad and good ones, and that there is one.
-use Rattle.std.proofs.Common.{◌≡◌, ℕ, ◌+◌, ◌<◌, ◌≤◌, true, false, List, [], ◌∷◌, ◌++◌, length, get_or, take, map, ap, sym, ◌∙◌, subst, string_bytes}
-use Rattle.std.specs.Prelude.{String, Option, None, Some, ◌==◌, is_some, option_map}
+use Rattle.std.proofs.Common.{◌≡◌, ℕ, ◌+◌, ◌<◌, true, false, List, [], ◌∷◌, ◌++◌, length, get_or, take, map, ap, refl, sym, ◌∙◌, subst, string_bytes, append_assoc, arith}
+use Rattle.std.specs.Prelude.{String, Option, None, Some, ◌==◌, is_some, option_map, reverse, Result, Ok, Err, IfErr, IsErrAnd}
 use Rattle.std.specs.Global.{Global}
-use Rattle.std.specs.List.{All}
-use Rattle.std.proofs.lemmas.List.{length-map, get_or-map, map_more, take_all}
-use Rattle.std.proofs.lemmas.List.Elements.{All-push}
+use Rattle.std.proofs.lemmas.List.{get_or-append-add, length-append, map-append, map_more, reverse-append}
+use Rattle.clap.specs.Words.{Text}
+use Rattle.client.specs.Leading.{url_text, url_texts}
+use Rattle.client.specs.declared.url.CrawlUrl.{CrawlUrl}
 use Rattle.cli.specs.GetPlans.{IsUrlRefused, AreUrlsRefused}
-use Rattle.cli.specs.GetWords.{IsGoodUrl}
 use Rattle.cli.specs.declared.get.plan.GetRefusal.{GetRefusal}
 use Rattle.cli.specs.declared.get.plan.GetRefusal.TheVariants.{Memory, Wrong}
 
--- a bad URL is why, if memory did not run out
-pub why-of-urls : (urls : List (String Global)) (k : ℕ) (url : String Global) (refusal : GetRefusal) → k < length urls → url ≡ get_or urls k url → IsUrlRefused (string_bytes url) refusal
-    → AreUrlsRefused (map string_bytes urls) refusal
-why-of-urls urls k url Memory below at why = tt
-why-of-urls urls k url (Wrong text) below at why =
-    (k, string_bytes url, subst (λ n. k < n) (sym (length-map urls string_bytes)) below, get_or-map string_bytes urls k url (string_bytes url) below ∙ ap string_bytes (sym at), why)
+-- the first URL that is left
+pub first-url : (old new : List (String Global)) (url : String Global) → old ≡ new ++ url ∷ [] → map string_bytes (reverse old) ≡ string_bytes url ∷ map string_bytes (reverse new)
+first-url old new url is = ap (λ (l : List (String Global)). map string_bytes (reverse l)) is ∙ ap (λ (l : List (String Global)). map string_bytes l) (reverse-append new (url ∷ []))
+
+-- one URL more is made
+pub made-more : (old new : List CrawlUrl) (url : CrawlUrl) → new ≡ old ++ url ∷ [] → url_texts new ≡ url_texts old ++ url_text url ∷ []
+made-more old new url is = ap url_texts is ∙ map-append url_text old (url ∷ [])
+
+-- the first URL that is left is made
+pub made-first : (old new left : List Text) (url : Text) → new ≡ old ++ url ∷ [] → new ++ left ≡ old ++ url ∷ left
+made-first old new left url is = ap (λ l. l ++ left) is ∙ append_assoc old (url ∷ []) left
+
+-- the URL after those that were made is refused
+pub refused-next : (made left : List Text) (url : Text) (refusal : GetRefusal) → IsUrlRefused url refusal → AreUrlsRefused (made ++ url ∷ left) refusal
+refused-next made left url Memory why = tt
+refused-next made left url (Wrong text) why =
+    let all : length (made ++ url ∷ left) ≡ length made + length (url ∷ left) = length-append made (url ∷ left) in
+    (length made + 0, url, omega (arith, all), get_or-append-add made (url ∷ left) 0 url, why)
+
+-- a refusal that is handed on has the same reason
+pub hands-on : {A : Type 0} (urls : List Text) (refusal : GetRefusal) (result : Result A GetRefusal) → IsErrAnd result (λ other. other ≡ refusal) → AreUrlsRefused urls refusal → IfErr result (AreUrlsRefused urls)
+hands-on urls refusal (Ok done) same why = tt
+hands-on urls refusal (Err other) same why = subst (AreUrlsRefused urls) (sym same) why
+
+-- no URL is left
+pub none-left : (urls : List (String Global)) → length urls ≡ 0 → map string_bytes (reverse urls) ≡ []
+none-left [] none = refl
+none-left (url ∷ urls) none = absurd (omega (arith, none))
 
 -- the texts of one URL more
 pub texts-more : (urls : List (String Global)) (k : ℕ) (url : String Global) → k < length urls → url ≡ get_or urls k url → map string_bytes (take (k + 1) urls) ≡ map string_bytes (take k urls) ++ string_bytes url ∷ []
 texts-more urls k url below at = map_more string_bytes urls k url below ∙ ap (λ (u : String Global). map string_bytes (take k urls) ++ string_bytes u ∷ []) (sym at)
-
--- one good URL more
-pub good-more : (urls : List (String Global)) (k : ℕ) (url : String Global) → k < length urls → url ≡ get_or urls k url → All IsGoodUrl (map string_bytes (take k urls)) → IsGoodUrl (string_bytes url)
-    → All IsGoodUrl (map string_bytes (take (k + 1) urls))
-good-more urls k url below at so_far good =
-    subst (All IsGoodUrl) (sym (texts-more urls k url below at)) (All-push IsGoodUrl (map string_bytes (take k urls)) (string_bytes url) so_far good)
-
--- all of them
-pub good-whole : (urls : List (String Global)) (k : ℕ) → length urls ≤ k → All IsGoodUrl (map string_bytes (take k urls)) → All IsGoodUrl (map string_bytes urls)
-good-whole urls k past good = subst (λ (us : List (String Global)). All IsGoodUrl (map string_bytes us)) (take_all k urls past) good
 
 -- a file is named
 pub has-file : (file : Option (String Global)) → is_some file ≡ true → option_map string_bytes file ≡ None → ⊥

@@ -1,8 +1,9 @@
 -- The subcommand `get`.
 use Rattle.std.specs.Option.{option_map}
-use Rattle.std.specs.Prelude.{◌≡◌, ◌⊎◌, ◌==◌, ℕ, Option, Some, None, List, map, string_bytes, if◌then◌else◌}
+use Rattle.std.specs.Prelude.{◌≡◌, ◌⊎◌, ◌==◌, ℕ, Option, Some, None, List, string_bytes, if◌then◌else◌}
 use Rattle.clap.specs.Words.{Text}
 use Rattle.client.specs.Crawling.{CrawlGiven, Crawls}
+use Rattle.client.specs.Leading.{url_texts}
 use Rattle.client.specs.declared.crawl.Crawled.{Crawled}
 use Rattle.client.specs.declared.crawl.fault.CrawlFault.{CrawlFault}
 use Rattle.client.specs.declared.crawl.fault.CrawlFault.TheVariants as faults
@@ -47,7 +48,7 @@ AreFileBytes Opens (Some name) unread bytes = AreBytesOf Opens (asked_file (Some
 
 -- the input of a plan's crawl: its options, its URLs, and a file of that kind, with those bytes
 abbrev pub given_by : CrawlPlan → UrlFile → Option (List ℕ) → CrawlGiven
-given_by plan kind bytes = record { options = plan.options; file = kind; words = map string_bytes plan.urls.items; bytes = bytes }
+given_by plan kind bytes = record { options = plan.options; file = kind; words = url_texts plan.urls.items; bytes = bytes }
 
 -- runs a crawl, and returns the status for its result
 pub record RunsCrawl {K : Type 0} (crawled : K → K → List Job → List JobResult → Type 0) (finished : K → List JobResult → Type 0) (given : CrawlGiven) (old new : Stream) (status : ℕ) : Type 0 where

@@ -1,10 +1,11 @@
 -- Plans of crawls from the words after `get`.
-use Rattle.std.specs.Prelude.{◌≡◌, ℕ, Bool, false, map, List, string_bytes, Option, None, Some, if◌then◌else◌, Result, Ok, Err}
+use Rattle.std.specs.Prelude.{◌≡◌, ℕ, Bool, false, List, string_bytes, Option, None, Some, if◌then◌else◌, Result, Ok, Err}
 use Rattle.std.specs.List.{All, Any}
 use Rattle.std.specs.Option.{option_map}
 use Rattle.clap.specs.Words.{Text}
 use Rattle.persistence.specs.declared.method.Method.{Method}
 use Rattle.persistence.specs.declared.method.Method.TheVariants.{Get, Head}
+use Rattle.client.specs.Leading.{url_texts}
 use Rattle.client.specs.Urls.{IsBadUrl}
 use Rattle.client.specs.declared.options.CrawlOptions.{CrawlOptions}
 use Rattle.cli.specs.GetWords.{GetSaid, IsGoodUrl, IsRefused, NamesNone, max_age_said, timeout_said}
@@ -35,7 +36,7 @@ pub record AreOptionsOf (said : GetSaid) (options : CrawlOptions) : Type 0 where
 -- ones are not skipped
 pub record IsPlanOf (said : GetSaid) (plan : CrawlPlan) : Type 0 where
   pub options : AreOptionsOf said plan.options
-  pub urls_said : map string_bytes plan.urls.items ≡ said.urls
+  pub urls_said : url_texts plan.urls.items ≡ said.urls
   pub file_said : option_map string_bytes plan.file ≡ said.crawl.file
   pub resolved_said : AreResolved said.crawl.resolve plan.resolved.items
   pub some : NamesNone said → ⊥

@@ -1,7 +1,6 @@
 -- URLs that enter and leave a queue.
-use Rattle.std.proofs.Common.{◌≡◌, ◌≤◌, ◌<◌, ◌+◌, ℕ, List, [], ◌∷◌, ◌++◌, length, get_or, map, refl, ap, sym, ◌∙◌, subst, arith, append_assoc, append-nil, string_bytes, inl, inr}
-use Rattle.std.specs.Prelude.{◌≢◌, Bool, true, Option, Some, String, reverse, remove, Result, Ok, Err, OnOk}
-use Rattle.std.specs.Global.{Global}
+use Rattle.std.proofs.Common.{◌≡◌, ◌≤◌, ◌<◌, ◌+◌, ℕ, List, [], ◌∷◌, ◌++◌, length, get_or, refl, ap, sym, ◌∙◌, subst, arith, append_assoc, append-nil, string_bytes, inl, inr}
+use Rattle.std.specs.Prelude.{◌≢◌, Bool, true, Option, Some, reverse, remove, Result, Ok, Err, OnOk}
 use Rattle.std.specs.List.{AllZip}
 use Rattle.std.specs.List.Sorted.{IsPermutation}
 use Rattle.std.proofs.lemmas.List.{length-append, map-append, reverse-append}
@@ -12,6 +11,7 @@ use Rattle.site_table.specs.Hosts.{Hosts}
 use Rattle.script_text.specs.declared.fault.FaultKind.TheVariants.{Memory, Read, Write, ScriptTooLong, LineTooLong, Unknown, Form, Place, BadLimits, BadSite, TooManySites}
 use Rattle.client.specs.Crawling.{IsAtBadUrl, LeavesUrls}
 use Rattle.client.specs.Hosts.{AreInUse, KeepsInUse, is_in_use}
+use Rattle.client.specs.Leading.{url_text, url_texts}
 use Rattle.client.specs.Lines.{Text}
 use Rattle.client.specs.FileLines.{LinesShown, TakesLine}
 use Rattle.client.specs.Reading.{AddsUrl, QueueShown, Reads, TakesOut, url_queued, urls_queued}
@@ -28,6 +28,7 @@ use Rattle.client.specs.declared.crawl.queued.Queued.{Queued}
 use Rattle.client.specs.declared.crawl.window.Window.{Window}
 use Rattle.client.specs.declared.options.CrawlOptions.{CrawlOptions}
 use Rattle.client.specs.declared.options.UrlFile.TheVariants as files
+use Rattle.client.specs.declared.url.CrawlUrl.{CrawlUrl}
 use Rattle.client.proofs.FileLines.{read_same, reads_after, reads_line, reads_nothing}
 use Rattle.client.proofs.Numbers.{one_numbered}
 use Rattle.client.proofs.Places.{in_use_more, in_use_on}
@@ -69,8 +70,8 @@ on_ok (Ok done) P Q leads holds = leads holds
 on_ok (Err error) P Q leads holds = tt
 
 -- the first URL is the last of the reversed list
-pub first_left : (old new : List (String Global)) (url : String Global) → old ≡ new ++ url ∷ [] → map string_bytes (reverse old) ≡ string_bytes url ∷ map string_bytes (reverse new)
-first_left old new url is = ap (λ (l : List (String Global)). map string_bytes (reverse l)) is ∙ ap (λ (l : List (String Global)). map string_bytes l) (reverse-append new (url ∷ []))
+pub first_left : (old new : List CrawlUrl) (url : CrawlUrl) → old ≡ new ++ url ∷ [] → url_texts (reverse old) ≡ url_text url ∷ url_texts (reverse new)
+first_left old new url is = ap (λ (l : List CrawlUrl). url_texts (reverse l)) is ∙ ap url_texts (reverse-append new (url ∷ []))
 
 -- a URL among the words is read
 pub reads_word : (old mid new : QueueShown) (url : Text) (source : Option (List ℕ)) → mid.queued ≡ old.queued → old.left ≡ url ∷ mid.left → mid.lines ≡ old.lines → mid.options ≡ old.options → mid.file ≡ old.file → mid.number ≡ old.number → AddsUrl url mid new
@@ -107,7 +108,7 @@ reads_url old mid new url source none_left has same takes adds = record {
 }
 
 -- no URL is left
-pub none_left : (urls : List (String Global)) → length urls ≡ 0 → map string_bytes (reverse urls) ≡ []
+pub none_left : (urls : List CrawlUrl) → length urls ≡ 0 → url_texts (reverse urls) ≡ []
 none_left [] none = refl
 none_left (url ∷ urls) none = absurd (omega (arith, none))
 

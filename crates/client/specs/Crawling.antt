@@ -1,5 +1,5 @@
 -- Crawls: their input, their state after each step, and their result.
-use Rattle.std.specs.Prelude.{◌≡◌, ◌≢◌, ◌≤◌, ◌++◌, ◌∷◌, [], ℕ, List, length, map, min, string_bytes, false, Result, Ok, Err, IfErr, Option, Some, None}
+use Rattle.std.specs.Prelude.{◌≡◌, ◌≢◌, ◌≤◌, ◌++◌, ◌∷◌, [], ℕ, List, length, min, false, Result, Ok, Err, IfErr, Option, Some, None}
 use Rattle.std.specs.List.{All}
 use Rattle.std.specs.List.Sorted.{IsPermutation}
 use Rattle.conn_log.specs.Sound.{AreDistinct}
@@ -8,6 +8,7 @@ use Rattle.run_loop.specs.Taking.{JobResult}
 use Rattle.script_run.specs.Streams.{Stream}
 use Rattle.client.specs.Faults.{CanEnd, line_fault}
 use Rattle.client.specs.FileLines.{AreFirst, HasNoLine, ReadsFile, nothing_read, urls_in}
+use Rattle.client.specs.Leading.{url_texts}
 use Rattle.client.specs.Lines.{Text}
 use Rattle.client.specs.Reading.{QueueShown}
 use Rattle.client.specs.Results.{AreNumbered, job_numbers}
@@ -35,7 +36,7 @@ pub record CrawlGiven : Type 0 where
   pub bytes : Option (List ℕ)
 
 abbrev pub crawl_given : Crawl → Option (List ℕ) → CrawlGiven
-crawl_given crawl bytes = record { options = crawl.options; file = crawl.file; words = map string_bytes crawl.urls.items; bytes = bytes }
+crawl_given crawl bytes = record { options = crawl.options; file = crawl.file; words = url_texts crawl.urls.items; bytes = bytes }
 
 -- the queue at the start of a crawl
 abbrev pub queue_given : CrawlGiven → QueueShown

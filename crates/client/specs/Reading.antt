@@ -4,6 +4,7 @@ use Rattle.std.specs.List.Sorted.{IsPermutation}
 use Rattle.script_run.specs.Streams.{Stream, OneMoreFailed}
 use Rattle.script_text.specs.declared.fault.FaultKind.TheVariants.{Read}
 use Rattle.client.specs.FileLines.{KnowsEnd, LinesShown, ReadsFile, lines_shown}
+use Rattle.client.specs.Leading.{url_texts}
 use Rattle.client.specs.Lines.{Text}
 use Rattle.client.specs.Urls.{IsBadText}
 use Rattle.client.specs.declared.crawl.fault.CrawlFault.{CrawlFault}
@@ -34,7 +35,7 @@ abbrev pub queue_shown : Queue → QueueShown
 queue_shown queue = record {
   options = queue.options;
   file = queue.file;
-  left = map string_bytes (reverse queue.urls.items);
+  left = url_texts (reverse queue.urls.items);
   lines = lines_shown queue.lines;
   queued = urls_queued queue.queued.items;
   number = queue.number;

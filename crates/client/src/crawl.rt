@@ -40,6 +40,7 @@ pub(crate) mod window;
 
 use crate::options::{CrawlOptions, UrlFile};
 use crate::resolved::Resolved;
+use crate::url::CrawlUrl;
 use bundle::MOST_HOSTS;
 use crawler::Crawler;
 use exchange::Job;
@@ -66,7 +67,7 @@ pub struct Crawl {
     pub alloc: Global,
     pub options: CrawlOptions,
     /// The URLs that come first.
-    pub urls: Vec<String>,
+    pub urls: Vec<CrawlUrl>,
     /// The kind of file that has more of them, one a line.
     pub file: UrlFile,
     /// Addresses that are given for hosts, which are not looked up.

@@ -26,5 +26,5 @@ pub use fetched::Fetched;
 pub use options::{CrawlFlags, CrawlOptions, UrlFile};
 pub use printable::{Escaped, has_unprintable, is_unprintable, write_escaped};
 pub use resolved::{Resolved, resolved_of};
-pub use url::{UrlFault, url_target};
+pub use url::{CrawlUrl, UrlFault, url_target};
 pub use worked::worked_lines;

@@ -1,6 +1,7 @@
-//! The targets of URLs.
+//! URLs to fetch, and their targets.
 
-ghost use Rattle.std.specs.Prelude.{IfOk, IfErr};
+ghost use Rattle.std.specs.Option.{ForSome};
+ghost use Rattle.std.specs.Prelude.{IfOk, IfErr, string_bytes};
 ghost use Rattle.conn_key.specs.Target.{GivesTarget};
 ghost use Rattle.client.specs.Urls.{IsUrlFault};
 
@@ -18,6 +19,16 @@ pub enum UrlFault {
     Unprintable,
     /// It leads to no target.
     NoTarget(KeyError),
+}
+
+/// A URL to fetch.
+#[derive(Drop)]
+pub struct CrawlUrl {
+    /// The URL as it was given.
+    pub text: String,
+    /// Its target, if that was read already.
+    pub target: Option<Target>,
+    ghost leads: { ForSome target (λ target. ∥ GivesTarget (string_bytes text) target ∥₁) },
 }
 
 /// Returns the target of a URL.

@@ -9,10 +9,10 @@ ghost use Rattle.cli.specs.LoadWords.{number_said};
 
 use crate::command_line::values::number_of;
 use crate::get::resolved::resolved_hosts;
-use crate::get::urls::check_urls;
+use crate::get::urls::{checked_urls, unchecked_urls};
 use crate::get::words::{CrawlWords, GetWords};
 use crate::loading::range::NumberRange;
-use client::{CrawlFlags, CrawlOptions, Escaped, Resolved};
+use client::{CrawlFlags, CrawlOptions, CrawlUrl, Escaped, Resolved};
 use persistence::Method;
 use script_text::DEFAULT_MAX_AGE;
 use std::alloc::{AllocError, Global};
@@ -50,7 +50,7 @@ For more information, try '--help'.
 pub struct CrawlPlan {
     pub options: CrawlOptions,
     /// The URLs among the words, which come first.
-    pub urls: Vec<String>,
+    pub urls: Vec<CrawlUrl>,
     /// The file with more of them; `-` is standard input.
     pub file: Option<String>,
     /// The addresses that `--resolve` gives for hosts, which are not looked up.
@@ -93,10 +93,12 @@ pub fn plan_of(alloc: Global, words: GetWords) -> Result<CrawlPlan, GetRefusal>
     }
     let options = options_of(alloc, &words)?;
     let resolved = resolved_hosts(alloc, words.crawl.resolve.as_slice())?;
-    if !options.flags.skip_bad {
-        check_urls(alloc, words.urls.as_slice())?;
-    }
     let GetWords { urls, crawl, .. } = words;
+    let urls = if options.flags.skip_bad {
+        unchecked_urls(alloc, urls)?
+    } else {
+        checked_urls(alloc, urls)?
+    };
     Ok(CrawlPlan {
         options,
         urls,

@@ -1,43 +1,69 @@
-//! Checks the URLs among the words after `get`.
+//! The URLs among the words after `get`.
 
-ghost use Rattle.std.specs.Prelude.{map, string_bytes, IfErr, OnOk};
+ghost use Rattle.std.specs.Prelude.{◌≡◌, map, string_bytes, IfErr, IfOk, OnOk};
 ghost use Rattle.std.specs.List.{All};
+ghost use Rattle.client.specs.Leading.{url_texts};
+ghost use Rattle.conn_key.specs.Target.{GivesTarget};
 ghost use Rattle.cli.specs.GetPlans.{IsUrlRefused, AreUrlsRefused};
 ghost use Rattle.cli.specs.GetWords.{IsGoodUrl};
 
 use crate::get::plan::{GetRefusal, wrong};
-use client::{Escaped, UrlFault, has_unprintable, url_target};
-use std::alloc::Global;
+use client::{CrawlUrl, Escaped, UrlFault, has_unprintable, url_target};
+use conn_key::Target;
+use std::alloc::{AllocError, Global};
 
-/// Checks that each URL has a target, and no control character.
+/// Returns the URLs of a crawl, each with its target.
 ///
 /// # Errors
 ///
-/// `Wrong` if a URL is bad, `Memory` if memory ran out.
-pub(crate) fn check_urls(alloc: Global, urls: &[String]) -> Result<(), GetRefusal>
-    ensures good { OnOk result (All IsGoodUrl (map string_bytes urls.now)) }
-    ensures refused { IfErr result (AreUrlsRefused (map string_bytes urls.now)) }
+/// `Wrong` if a URL has no target or a control character, `Memory` if memory ran out.
+pub(crate) fn checked_urls(alloc: Global, urls: Vec<String>) -> Result<Vec<CrawlUrl>, GetRefusal>
+    ensures texts { IfOk result (λ made. url_texts made.items ≡ map string_bytes urls.items) }
+    ensures good { OnOk result (All IsGoodUrl (map string_bytes urls.items)) }
+    ensures refused { IfErr result (AreUrlsRefused (map string_bytes urls.items)) }
 {
-    for url in urls {
-        if let Err(refusal) = check_url(alloc, url.as_str()) {
-            return Err(refusal);
-        }
+    let mut left = urls;
+    left.reverse();
+    let mut made = Vec::new(alloc);
+    while let Some(text) = left.pop() {
+        let target = Some(checked_target(alloc, text.as_str())?);
+        let Ok(()) = made.push(CrawlUrl { text, target }) else {
+            return Err(GetRefusal::Memory);
+        };
     }
-    Ok(())
+    Ok(made)
 }
 
-/// Checks that a URL has a target, and no control character.
+/// Returns the URLs of a crawl, which may be bad.
 ///
 /// # Errors
 ///
-/// `Wrong` if it is bad, `Memory` if memory ran out.
-fn check_url(alloc: Global, url: &str) -> Result<(), GetRefusal>
+/// Memory ran out.
+pub(crate) fn unchecked_urls(alloc: Global, urls: Vec<String>) -> Result<Vec<CrawlUrl>, AllocError>
+    ensures { IfOk result (λ made. url_texts made.items ≡ map string_bytes urls.items) }
+{
+    let mut left = urls;
+    left.reverse();
+    let mut made = Vec::new(alloc);
+    while let Some(text) = left.pop() {
+        made.push(CrawlUrl { text, target: None })?;
+    }
+    Ok(made)
+}
+
+/// Returns the target of a URL.
+///
+/// # Errors
+///
+/// `Wrong` if the URL has no target or a control character, `Memory` if memory ran out.
+fn checked_target(alloc: Global, url: &str) -> Result<Target, GetRefusal>
+    ensures target { IfOk result (GivesTarget url.now) }
     ensures good { OnOk result (IsGoodUrl url.now) }
     ensures refused { IfErr result (IsUrlRefused url.now) }
 {
     match url_target(alloc, url) {
         // the contract of `url_target` says nothing of characters
-        Ok(_target) if !has_unprintable(url) => Ok(()),
+        Ok(target) if !has_unprintable(url) => Ok(target),
         Err(UrlFault::Memory) => Err(GetRefusal::Memory),
         Err(UrlFault::NoTarget(error)) => {
             let hint = scheme_hint(url);

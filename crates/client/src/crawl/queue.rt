@@ -15,7 +15,7 @@ use crate::crawl::queued::Queued;
 use crate::crawl::route::Route;
 use crate::crawl::window::Window;
 use crate::options::{CrawlOptions, UrlFile};
-use crate::url::{UrlFault, url_target};
+use crate::url::{CrawlUrl, UrlFault, url_target};
 use conn_key::Target;
 use conn_log::Want;
 use exchange::Job;
@@ -38,7 +38,7 @@ pub(crate) struct Queue {
     options: CrawlOptions,
     file: UrlFile,
     // The URLs among the words that were not read yet; the last is next.
-    urls: Vec<String>,
+    urls: Vec<CrawlUrl>,
     lines: UrlLines,
     // The fault that ends the crawl once nothing is in flight: no more is read.
     stop: Option<CrawlFault>,
@@ -69,6 +69,7 @@ impl Queue {
     ghost use Rattle.client.specs.Reading.{AddsUrl, Reads, ReadsOn, StopsIfBad, StopsIfUnread};
     ghost use Rattle.client.specs.Reading.{TakesBad, TakesOut};
     ghost use Rattle.client.specs.Reading.{queue_shown, url_queued};
+    ghost use Rattle.client.specs.Leading.{url_text};
     ghost use Rattle.client.specs.Results.{HaveNumbers};
     ghost use Rattle.client.specs.Windows.{Begins, BeginsOrWaits, KeepsAll, KeepsHosts};
     ghost use Rattle.client.specs.Windows.{KeepsOthers, KeepsQueue};
@@ -207,7 +208,7 @@ impl Queue {
         ensures hosts { KeepsHosts self.old self.new }
     {
         if let Some(url) = self.urls.pop() {
-            return self.add(url, 0);
+            return self.add_word(url);
         }
         if self.file == UrlFile::None {
             return Ok(false);
@@ -245,6 +246,20 @@ impl Queue {
         Ok(was_read)
     }
 
+    // Adds a URL of the words to the queue.
+    fn add_word(&mut self, url: CrawlUrl) -> Result<bool, AllocError>
+        ensures added { OnOk result (AddsUrl (url_text url) (queue_shown self.old)
+            (queue_shown self.new)) }
+        ensures stop { StopsIfBad (url_text url) 0 self.old.stop self.new.stop }
+        ensures hosts { KeepsHosts self.old self.new }
+    {
+        let CrawlUrl { text, target } = url;
+        match target {
+            Some(target) => self.add_good(text, target),
+            None => self.add(text, 0),
+        }
+    }
+
     // Adds a URL to the queue, with where it leads to. `line` is its line of the file, if it has
     // one.
     fn add(&mut self, url: String, line: u64) -> Result<bool, AllocError>
@@ -254,15 +269,24 @@ impl Queue {
         ensures hosts { KeepsHosts self.old self.new }
     {
         match url_target(self.alloc, url.as_str()) {
-            Ok(target) => {
-                let host_key = host_key(self.alloc, &target)?;
-                let route = Route::To(target, host_key);
-                self.push(Queued { url, route })
-            }
+            Ok(target) => self.add_good(url, target),
             Err(UrlFault::Memory) => Err(AllocError),
             Err(UrlFault::Unprintable) => self.add_bad(url, line),
             Err(UrlFault::NoTarget(_)) => self.add_bad(url, line),
         }
+    }
+
+    // Adds a URL with this target to the queue.
+    fn add_good(&mut self, url: String, target: Target) -> Result<bool, AllocError>
+        requires leads { ∥ GivesTarget (string_bytes url) target ∥₁ }
+        ensures added { OnOk result (AddsUrl (string_bytes url) (queue_shown self.old)
+            (queue_shown self.new)) }
+        ensures stop { self.new.stop ≡ self.old.stop }
+        ensures hosts { KeepsHosts self.old self.new }
+    {
+        let host_key = host_key(self.alloc, &target)?;
+        let route = Route::To(target, host_key);
+        self.push(Queued { url, route })
     }
 
     // Adds a bad URL to the queue. It ends the crawl unless bad URLs are skipped.
