@@ -1,17 +1,8 @@
-pub mod CommandLines
-pub mod Plans
-pub mod GetRows
-pub mod LoadRows
-pub mod FlagRows
 pub mod LoadTraces
-pub mod LoadRefusals
-pub mod Percentages
-pub mod UrlJobs
 pub mod UnknownSites
 pub mod OwnJobs
 pub mod Outcomes
 pub mod SitePlaces
-pub mod Resolves
 pub mod FirstNumbers
 pub mod LoadResults
 pub mod RunResults

@@ -5,8 +5,8 @@ use Rattle.std.proofs.lemmas.List.{map-append, take_more}
 use Rattle.std.proofs.lemmas.Nat.{mod_below}
 use Rattle.exchange.specs.declared.job.Job.{Job}
 use Rattle.cli.specs.LoadJobs.{AreOwnJobs, IsOwnJob, own_url}
-use Rattle.cli.specs.LoadSites.{AreNumbered}
-use Rattle.cli.specs.declared.loading.plan.MeasuredFlags.{MeasuredFlags}
+use Rattle.command_line.specs.Numbering.{AreNumbered}
+use Rattle.command_line.specs.declared.load.plan.MeasuredFlags.{MeasuredFlags}
 
 -- one more request
 pub own_jobs_more : (flags : MeasuredFlags) (ports : List ℕ) (number : ℕ) (jobs : List Job) (job : Job) → AreOwnJobs flags ports number jobs → IsOwnJob flags ports (number + length jobs) job → AreOwnJobs flags ports number (jobs ++ job ∷ [])

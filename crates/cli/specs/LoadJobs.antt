@@ -2,10 +2,10 @@
 use Rattle.std.specs.Prelude.{◌≡◌, ◌+◌, ◌%◌, ◌++◌, ℕ, codes, List, [], ◌∷◌, length, map, max, string_bytes, slice_index, Option, Some, None}
 use Rattle.std.specs.Fmt.{decimal}
 use Rattle.exchange.specs.declared.job.Job.{Job}
-use Rattle.cli.specs.LoadRequests.{url_job}
-use Rattle.cli.specs.declared.loading.options.LoadOptions.{LoadOptions}
-use Rattle.cli.specs.declared.loading.plan.LoadPlan.{LoadPlan}
-use Rattle.cli.specs.declared.loading.plan.MeasuredFlags.{MeasuredFlags}
+use Rattle.command_line.specs.LoadRequests.{url_job}
+use Rattle.command_line.specs.declared.load.options.LoadOptions.{LoadOptions}
+use Rattle.command_line.specs.declared.load.plan.LoadPlan.{LoadPlan}
+use Rattle.command_line.specs.declared.load.plan.MeasuredFlags.{MeasuredFlags}
 
 -- request K is for the path /K at site K modulo the number of sites, on the site's port of 127.0.0.1
 pub record IsOwnJob (flags : MeasuredFlags) (ports : List ℕ) (number : ℕ) (job : Job) : Type 0 where

@@ -1,12 +1,11 @@
 -- The sites of a load, and their addresses.
-use Rattle.std.specs.Prelude.{◌≡◌, ◌⊎◌, ◌+◌, ◌<◌, ◌≤◌, ◌++◌, ℕ, max, List, [], ◌∷◌, string_bytes, Option, Some, None}
-use Rattle.std.specs.Coded.{×_prop, le_prop, Unit-prop}
+use Rattle.std.specs.Prelude.{◌≡◌, ◌⊎◌, ◌+◌, ◌<◌, ◌++◌, ℕ, List, [], ◌∷◌, string_bytes, Option, Some, None}
 use Rattle.std.specs.List.{All, Contains}
 use Rattle.std.specs.Global.{Vec}
 use Rattle.std.specs.declared.net.socket_addr.SocketAddr.{SocketAddr}
 use Rattle.clap.specs.Words.{Text}
-use Rattle.client.specs.Hosts.{IsGivenAddress}
-use Rattle.client.specs.declared.resolved.Resolved.{Resolved}
+use Rattle.crawl_input.specs.Given.{IsGivenAddress}
+use Rattle.crawl_input.specs.declared.resolved.Resolved.{Resolved}
 use Rattle.conn_key.specs.declared.target.Target.{Target}
 use Rattle.exchange.specs.declared.job.Job.{Job}
 use Rattle.log_trace.specs.Lines.{site_line}
@@ -60,15 +59,6 @@ IsPlaceOf resolved target (Known addresses) =
 abbrev pub IsKnown : Place → Type 0
 IsKnown Own = ⊥
 IsKnown (Known addresses) = Unit {0}
-
--- the sites of jobs are numbered in the order in which the jobs name them first, where `count` sites were named before
-abbrev pub AreNumbered : ℕ → List Job → Type 0
-AreNumbered count [] = Unit {0}
-AreNumbered count (job ∷ jobs) = (job.site ≤ count) × AreNumbered (max count (job.site + 1)) jobs
-
-pub numbered_prop : (count : ℕ) (jobs : List Job) → IsProp (AreNumbered count jobs)
-numbered_prop count [] = Unit-prop
-numbered_prop count (job ∷ jobs) = ×_prop le_prop (numbered_prop (max count (job.site + 1)) jobs)
 
 -- each site of these jobs is one of the first `count`
 abbrev pub AreAllBelow : ℕ → List Job → Type 0

@@ -2,18 +2,14 @@
 
 ghost use Rattle.std.specs.Prelude.{◌≡◌, None};
 ghost use Rattle.cli.specs.Auditing.{AnswersAudit, audit_status, stop_status};
-ghost use Rattle.cli.specs.Inputs.{name_of};
+ghost use Rattle.command_line.specs.Inputs.{name_of};
 ghost use Rattle.script_run.specs.Streams.{CanCount};
 
-pub(crate) mod subcommand;
-pub(crate) mod words;
-
-use crate::script::input::ScriptInput;
 use audit_run::{AuditStop, Verdict, audit_file, audit_stream};
+use command_line::{AuditWords, ScriptInput};
 use script_run::{ScriptFiles, Sink, Source};
 use std::alloc::Global;
 use std::io::Write;
-use words::AuditWords;
 
 /// The trace is lawful.
 const LAWFUL: u8 = 0;

@@ -1,6 +1,6 @@
 //! Messages for files that cannot be read or written.
 
-use client::Escaped;
+use crawl_input::Escaped;
 use std::alloc::{AllocError, Global};
 use std::io::{Error, Write};
 

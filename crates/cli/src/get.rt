@@ -3,20 +3,16 @@
 ghost use Rattle.std.specs.Prelude.{◌≡◌, None, option_map, string_bytes};
 ghost use Rattle.client.specs.Crawling.{crawl_given};
 ghost use Rattle.cli.specs.Fetching.{IsKindOf, RunsCrawl, RunsGet, crawl_status};
-ghost use Rattle.cli.specs.GetPlans.{plan_file};
+ghost use Rattle.command_line.specs.GetPlans.{plan_file};
 ghost use Rattle.script_run.specs.Streams.{CanCount};
 
-pub(crate) mod plan;
-pub(crate) mod resolved;
-pub(crate) mod subcommand;
 pub(crate) mod system_names;
 pub(crate) mod system_network;
-pub(crate) mod urls;
-pub(crate) mod words;
 
 use crate::file_fault::{FileAction, write_file_fault};
-use client::{Crawl, CrawlFault, Crawled, Network, UrlFile};
-use plan::CrawlPlan;
+use client::{Crawl, CrawlFault, Crawled, Network};
+use command_line::CrawlPlan;
+use crawl_input::UrlFile;
 use script_run::{ScriptFiles, Sink, Source};
 use script_text::FaultKind;
 use std::alloc::Global;

@@ -1,25 +1,20 @@
 //! What the program does with its words, and the status with which it ends.
 
 ghost use Rattle.std.specs.Prelude.{◌≡◌, None};
-ghost use Rattle.cli.specs.CommandLine.{AnswersRequest, RunsProgram};
-ghost use Rattle.cli.specs.CommandLine.{file_said, request_file, said, word_faults};
+ghost use Rattle.cli.specs.Programs.{AnswersRequest, RunsProgram};
+ghost use Rattle.command_line.specs.CommandLine.{file_said, request_file, said, word_faults};
 ghost use Rattle.cli.specs.Fetching.{RunsGet};
 ghost use Rattle.cli.specs.Loading.{RunsLoad, WritesText};
 ghost use Rattle.script_run.specs.Streams.{CanCount};
 
 use crate::auditing::answer_audit;
-use crate::command_line::Words;
-use crate::command_line::memory::ArgsAlloc;
-use crate::command_line::request::{Request, asked_by};
 use crate::get::run_get;
 use crate::loading::failure::LoadFailure;
 use crate::loading::outcome::LoadOutcome;
-use crate::loading::plan::LoadPlan;
 use crate::loading::run_load;
 use crate::script::answer_script;
-use crate::script::input::ScriptInput;
-use crate::script::words::ScriptWords;
 use client::Network;
+use command_line::{ArgsAlloc, LoadPlan, Request, ScriptInput, ScriptWords, Words, asked_by};
 use script_run::{ScriptFiles, Sink, Source};
 use std::alloc::Global;
 use std::io::Write;

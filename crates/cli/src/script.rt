@@ -1,24 +1,20 @@
 //! Runs a script, and tells of its fault.
 
 ghost use Rattle.std.specs.Prelude.{◌≡◌, None, option_map, string_bytes};
-ghost use Rattle.cli.specs.CommandLine.{AnswersDrawn, AnswersPictured, AnswersScript};
-ghost use Rattle.cli.specs.CommandLine.{status_of};
-ghost use Rattle.cli.specs.Inputs.{name_of};
+ghost use Rattle.cli.specs.Programs.{AnswersDrawn, AnswersPictured, AnswersScript};
+ghost use Rattle.cli.specs.Programs.{status_of};
+ghost use Rattle.command_line.specs.Inputs.{name_of};
 ghost use Rattle.script_run.specs.Streams.{CanCount};
 
-pub(crate) mod input;
 mod picturing;
-pub(crate) mod subcommand;
-pub(crate) mod words;
 
 use crate::file_fault::{FileAction, write_file_fault};
-use input::ScriptInput;
+use command_line::{ScriptInput, ScriptWords};
 use picturing::Painter;
 use script_run::{ScriptFiles, Sink, Source, Unseen, Viewer, run_file_for, run_script_for};
 use script_text::{FaultKind, ScriptFault};
 use std::alloc::Global;
 use std::io::Write;
-use words::ScriptWords;
 
 /// The script was run to its end.
 const DONE: u8 = 0;

@@ -3,8 +3,10 @@
 use crate::checks::check_eq;
 use crate::networks::FakeNames;
 use crate::running::words_of;
-use cli::{CountedArgsAlloc, LoadFault, SystemNetwork, run_program};
-use client::{CrawlOptions, LookUps, Network, NetworkFault};
+use cli::{LoadFault, SystemNetwork, run_program};
+use client::{LookUps, Network, NetworkFault};
+use command_line::CountedArgsAlloc;
+use crawl_input::CrawlOptions;
 use loopback_server::Server;
 use script_run::SystemFiles;
 use std::alloc::{AllocError, AllocGlobal, Global};

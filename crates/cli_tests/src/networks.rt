@@ -2,7 +2,8 @@
 
 use crate::crawlers::FakeCrawler;
 use budget::Refusal;
-use client::{Answer, CrawlOptions, Fetched, Names, Network, NetworkFault};
+use client::{Answer, Fetched, Names, Network, NetworkFault};
+use crawl_input::CrawlOptions;
 use exchange::{Done, Fault, Job};
 use persistence::{Facts, Framing, Method, Version};
 use std::alloc::{AllocError, Global};

@@ -2,7 +2,7 @@
 
 use crate::running::{ROW, Row, Text, check_all, check_stopped, check_words};
 use crate::streams::REUSE;
-use cli::Words;
+use command_line::Words;
 
 /// Words of pictures that cannot be made or written.
 static ROWS: [Row; 2] = [

@@ -1,7 +1,5 @@
 pub mod Clients
 pub mod Fetching
-pub mod Printable
-pub mod Urls
 pub mod Leading
 pub mod Lines
 pub mod Results

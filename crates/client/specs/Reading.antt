@@ -4,16 +4,16 @@ use Rattle.std.specs.List.Sorted.{IsPermutation}
 use Rattle.script_run.specs.Streams.{Stream, OneMoreFailed}
 use Rattle.script_text.specs.declared.fault.FaultKind.TheVariants.{Read}
 use Rattle.client.specs.FileLines.{KnowsEnd, LinesShown, ReadsFile, lines_shown}
-use Rattle.client.specs.Leading.{url_texts}
+use Rattle.crawl_input.specs.Given.{url_texts}
 use Rattle.client.specs.Lines.{Text}
-use Rattle.client.specs.Urls.{IsBadText}
+use Rattle.crawl_input.specs.Urls.{IsBadText}
 use Rattle.client.specs.declared.crawl.fault.CrawlFault.{CrawlFault}
 use Rattle.client.specs.declared.crawl.fault.CrawlFault.TheVariants as faults
 use Rattle.client.specs.declared.crawl.queue.Queue.{Queue}
 use Rattle.client.specs.declared.crawl.queued.Queued.{Queued}
-use Rattle.client.specs.declared.options.CrawlOptions.{CrawlOptions}
-use Rattle.client.specs.declared.options.UrlFile.{UrlFile}
-use Rattle.client.specs.declared.options.UrlFile.TheVariants as files
+use Rattle.crawl_input.specs.declared.options.CrawlOptions.{CrawlOptions}
+use Rattle.crawl_input.specs.declared.options.UrlFile.{UrlFile}
+use Rattle.crawl_input.specs.declared.options.UrlFile.TheVariants as files
 
 -- a queue of URLs: the options, the kind of file, the unread URLs among the words, the unread lines of the file, and the
 -- URLs that were read, in order; and the number of the next transfer

@@ -38,10 +38,8 @@ pub(crate) mod signals;
 pub(crate) mod timer;
 pub(crate) mod window;
 
-use crate::options::{CrawlOptions, UrlFile};
-use crate::resolved::Resolved;
-use crate::url::CrawlUrl;
 use bundle::MOST_HOSTS;
+use crawl_input::{CrawlOptions, CrawlUrl, Resolved, UrlFile};
 use crawler::Crawler;
 use exchange::Job;
 use fault::{CrawlFault, NetworkFault};

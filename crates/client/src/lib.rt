@@ -5,11 +5,7 @@
 mod client;
 mod crawl;
 mod fetched;
-mod options;
-mod printable;
-mod resolved;
 mod time_limit;
-mod url;
 mod worked;
 
 pub use client::Client;
@@ -23,8 +19,4 @@ pub use crawl::names::{Answer, Names, Resolver};
 pub use crawl::network::Network;
 pub use crawl::{Crawl, Crawled};
 pub use fetched::Fetched;
-pub use options::{CrawlFlags, CrawlOptions, UrlFile};
-pub use printable::{Escaped, has_unprintable, is_unprintable, write_escaped};
-pub use resolved::{Resolved, resolved_of};
-pub use url::{CrawlUrl, UrlFault, url_target};
 pub use worked::worked_lines;

@@ -2,11 +2,9 @@
 //! through a pool, and puts a shared cache under load.
 #![tactic(auto)]
 
-use cli::{
-    CountedArgsAlloc, SystemNetwork, SystemResolver, given_words, load_on_system, look_up_threads,
-    run_program,
-};
+use cli::{SystemNetwork, SystemResolver, load_on_system, look_up_threads, run_program};
 use client::LookUps;
+use command_line::{CountedArgsAlloc, given_words};
 use script_run::{FailureCounted, SystemFiles};
 use std::alloc::Global;
 use std::fs::{self, File};

@@ -1,8 +1,7 @@
 //! Names that the system looks up.
 
-use crate::command_line::Words;
-use crate::command_line::resolving::system_addresses;
 use client::{Answer, LookUps, Names, Resolver};
+use command_line::{Words, system_addresses};
 use std::alloc::{AllocError, Global};
 use std::cell::RefCell;
 use std::collections::VecDeque;

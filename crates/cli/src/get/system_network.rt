@@ -3,7 +3,8 @@
 use crate::get::system_names::{SystemNames, SystemResolver};
 use budget::Limits;
 use cache::Pool;
-use client::{CrawlOptions, LookUps, LoopCrawler, Network, NetworkFault};
+use client::{LookUps, LoopCrawler, Network, NetworkFault};
+use crawl_input::CrawlOptions;
 use futures::task::{Doorbell, Solo};
 use socket::{Addresses, PolledDial, PolledWire, SystemClock};
 use std::alloc::{AllocGlobal, Global};

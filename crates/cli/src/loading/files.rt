@@ -5,7 +5,7 @@ ghost use Rattle.std.specs.Prelude.{◌≡◌, IfOk, IfSome};
 use crate::file_fault::{FileAction, file_fault_text};
 use crate::loading::failure::LoadFailure;
 use crate::loading::fault::OUT_OF_MEMORY;
-use crate::loading::plan::LoadPlan;
+use command_line::LoadPlan;
 use script_run::FailureCounted;
 use std::alloc::Global;
 use std::fs::{self, File};

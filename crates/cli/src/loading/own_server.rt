@@ -3,9 +3,7 @@
 ghost use Rattle.std.specs.Prelude.{◌≡◌, ◌<◌, ◌^◌, length, map, string_bytes, IfOk, OnOk};
 ghost use Rattle.cli.specs.LoadJobs.{AreOwnJobs, AsksOwn, IsOwnJob, own_count, own_url};
 
-use crate::loading::options::LoadOptions;
-use crate::loading::plan::{LoadPlan, MeasuredFlags};
-use crate::loading::targets::job_of;
+use command_line::{LoadOptions, LoadPlan, MeasuredFlags, job_of};
 use conn_key::Target;
 use exchange::Job;
 use std::alloc::{AllocError, Global};

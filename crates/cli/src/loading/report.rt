@@ -6,14 +6,13 @@ ghost use Rattle.load_figures.specs.declared.job_counts.JobCounts.{JobCounts};
 ghost use Rattle.cli.specs.LoadStatuses.{load_status};
 ghost use Rattle.cli.specs.LoadRuns.{FailsAbove, IsOutcomeOf, load_lines};
 
-use crate::build::{BUILD, VERSION};
 use crate::loading::failure::LoadFailure;
 use crate::loading::fault::{LoadFault, OUT_OF_MEMORY};
 use crate::loading::files::{OutputFile, unwritten};
 use crate::loading::outcome::LoadOutcome;
-use crate::loading::plan::{LoadPlan, MeasuredNumbers};
 use crate::loading::sites::LoadSites;
 use cache_report::{JobSums, report_with};
+use command_line::{BUILD, LoadPlan, MeasuredNumbers, VERSION};
 use load_figures::{
     Connections, HostRun, LoadReport, LoadRun, OptionValue, SaidOption, Summary, fails_above,
     json_text,

@@ -5,17 +5,16 @@ ghost use Rattle.cli.specs.LoadRuns.{IsLoadOutcomeOf, lacks_jobs, IsUnknownHost,
 ghost use Rattle.cli.specs.LoadRuns.{ReportsRun, RunsMany, jobs_planned, polled_world};
 ghost use Rattle.cli.specs.LoadRuns.{per_second, positive};
 ghost use Rattle.cli.specs.LoadSites.{AreSitesOf, AreAllBelow};
-ghost use Rattle.cli.specs.declared.loading.plan.LoadPlan.{LoadPlan};
+ghost use Rattle.command_line.specs.declared.load.plan.LoadPlan.{LoadPlan};
 
 use crate::loading::failure::LoadFailure;
 use crate::loading::fault::{LoadFault, OUT_OF_MEMORY};
 use crate::loading::files::{LoadFiles, OutputFile};
-use crate::loading::options::LoadOptions;
 use crate::loading::outcome::LoadOutcome;
-use crate::loading::plan::LoadPlan;
 use crate::loading::report::{outcome_of, report_of_load, write_picture};
 use crate::loading::sites::{LoadSites, SiteFault};
 use crate::loading::watch::LoadWatch;
+use command_line::{LoadOptions, LoadPlan};
 use load_run::{LoadTimes, LoadedMany, ManyPlan, Rate, load_many};
 use std::alloc::{AllocGlobal, Global};
 use std::random::RandomSource;

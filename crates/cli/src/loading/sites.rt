@@ -4,14 +4,15 @@ ghost use Rattle.std.specs.Prelude.{◌≡◌, ◌++◌, length, string_bytes, A
 ghost use Rattle.std.specs.Prelude.{IfErr, IfOk, OnOk};
 ghost use Rattle.std.specs.List.{AllZip};
 ghost use Rattle.socket.specs.declared.addresses.Addresses.{Addresses};
-ghost use Rattle.cli.specs.LoadSites.{AreAllBelow, AreNumbered, AreSitesOf, IfUnknown, IsKnown};
+ghost use Rattle.cli.specs.LoadSites.{AreAllBelow, AreSitesOf, IfUnknown, IsKnown};
+ghost use Rattle.command_line.specs.Numbering.{AreNumbered};
 ghost use Rattle.cli.specs.LoadSites.{IsListOf, IsPlaceOf, site_lines};
 ghost use Rattle.cli.specs.LoadSites.{IsListAt, IsUnknownAt, IsUnknownIn};
 ghost use Rattle.socket.specs.Hosts.{AddsHost};
 
-use crate::command_line::resolving::system_addresses;
-use client::{Resolved, resolved_of};
+use command_line::system_addresses;
 use conn_key::Target;
+use crawl_input::{Resolved, resolved_of};
 use exchange::Job;
 use log_trace::add_site;
 use socket::{AddressFault, Addresses};

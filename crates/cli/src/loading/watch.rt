@@ -2,10 +2,10 @@
 
 use crate::loading::failure::LoadFailure;
 use crate::loading::files::OutputFile;
-use crate::loading::plan::LoadPlan;
 use crate::loading::progress::ProgressLine;
 use crate::loading::sites::LoadSites;
 use crate::loading::tracing::LoadTrace;
+use command_line::LoadPlan;
 use conn_log::Entry;
 use load_run::{Seen, Watch};
 use std::alloc::Global;

@@ -1,6 +1,6 @@
 //! What a report says, and what has to hold of it.
 
-use cli::LoadOptions;
+use command_line::LoadOptions;
 use std::process::Abort;
 
 /// The most sites of a load.

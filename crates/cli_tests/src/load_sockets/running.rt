@@ -1,7 +1,8 @@
 //! The program, with its streams in memory.
 
 use crate::networks::FakeNetwork;
-use cli::{CountedArgsAlloc, Words, load_on_system, run_program};
+use cli::{load_on_system, run_program};
+use command_line::{CountedArgsAlloc, Words};
 use script_run::SystemFiles;
 use std::alloc::{AllocError, AllocGlobal, Global};
 use std::random::RandomSource;

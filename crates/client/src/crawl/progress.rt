@@ -1,7 +1,7 @@
 //! The progress of a crawl.
 
 use crate::crawl::in_flight::{InFlight, Tally};
-use crate::options::CrawlFlags;
+use crawl_input::CrawlFlags;
 use script_text::FaultKind;
 
 /// The progress of a crawl: its transfers in flight, its tally, and its fault.

@@ -1,5 +1,5 @@
-use Rattle.cli.specs.CommandLine.{said, word_faults}
-use Rattle.cli.proofs.CommandLines.{asks-no-file}
+use Rattle.command_line.specs.CommandLine.{said, word_faults}
+use Rattle.command_line.proofs.CommandLines.{asks-no-file}
 use Rattle.cli.proofs.program.run_program.Goals as goal
 
 pub returns-clause-unopened : goal.returns-clause-unopened

@@ -1,0 +1,9 @@
+pub mod CommandLines
+pub mod Plans
+pub mod GetRows
+pub mod LoadRows
+pub mod FlagRows
+pub mod LoadRefusals
+pub mod Percentages
+pub mod UrlJobs
+pub mod Resolves

@@ -1,0 +1,14 @@
+pub mod Inputs
+pub mod AuditWords
+pub mod ScriptWords
+pub mod CrawlWords
+pub mod GetWords
+pub mod GetPlans
+pub mod LoadRanges
+pub mod LoadWords
+pub mod CommandLine
+pub mod MeasuredWords
+pub mod Resolving
+pub mod Numbering
+pub mod LoadRequests
+pub mod LoadPlan

@@ -1,0 +1,4 @@
+//! The words of `audit`.
+
+pub(crate) mod subcommand;
+pub(crate) mod words;

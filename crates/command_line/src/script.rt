@@ -1,0 +1,5 @@
+//! The words of `script`.
+
+pub(crate) mod input;
+pub(crate) mod subcommand;
+pub(crate) mod words;

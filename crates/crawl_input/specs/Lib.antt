@@ -1,0 +1,3 @@
+pub mod Printable
+pub mod Urls
+pub mod Given
