@@ -1,4 +1,4 @@
-//! Characters that are shown escaped, since a terminal would obey them.
+//! Characters that are escaped in output, since a terminal would obey them.
 
 ghost use Rattle.std.specs.Prelude.{◌≡◌};
 ghost use Rattle.std.specs.List.{list_any};
@@ -7,15 +7,15 @@ ghost use Rattle.crawl_input.specs.Printable.{is_unprintable};
 
 use std::fmt;
 
-/// Whether a text has a control character, or one that turns the direction of text.
+/// Returns true if a text has a control character, or one that changes the direction of text.
 pub fn has_unprintable(text: &str) -> bool
     ensures { result ≡ list_any is_unprintable (chars text.now) }
 {
     text.chars().any(|c| is_unprintable(c))
 }
 
-/// Whether this is a control character (U+0000 to U+001F, U+007F to U+009F), or one that turns the
-/// direction of text (U+202A to U+202E, U+2066 to U+2069).
+/// Returns true for a control character (U+0000 to U+001F, U+007F to U+009F), and for one that
+/// changes the direction of text (U+202A to U+202E, U+2066 to U+2069).
 pub fn is_unprintable(c: char) -> bool
     ensures { result ≡ is_unprintable c }
 {

@@ -2,23 +2,24 @@
 
 use std::sync::atomic::{AtomicU64, Ordering};
 
-/// Number of loops of a run whose transfers wait for connections: while it is 0, nobody rings. A
-/// loop that counts itself asks for its connections afterwards, and one that spends a lease reads
-/// the number afterwards; so either the ring comes or the question finds the grant.
+/// Number of loops of a run that have waiters. While it is 0, no loop rings.
+///
+/// No grant is lost: a loop that counts itself checks its waiters afterwards, and a loop that spends
+/// a lease reads the number afterwards. So the check finds the grant, or the ring comes.
 #[derive(Drop)]
 pub(crate) struct LoopsWithWaiters {
     number: AtomicU64,
 }
 
 impl LoopsWithWaiters {
-    /// None.
+    /// Makes the count of a run in which no loop has waiters.
     pub(crate) fn new() -> LoopsWithWaiters {
         LoopsWithWaiters {
             number: AtomicU64::new(0),
         }
     }
 
-    /// Counts a loop that has waiters from now on, or has none any more.
+    /// Adds a loop that has waiters from now on, or removes one that no longer has any.
     pub(crate) fn note(&self, has_waiters: bool) {
         if has_waiters {
             self.number.fetch_add(1, Ordering::SeqCst);

@@ -74,9 +74,9 @@ pub(crate) struct Common<'s, S: JobSource, T: Timer> {
 /// of the tools has a worker, in a thread of its own if one can be started, and an even share of
 /// the places. A worker draws the number of a job if a place is free and the job is due.
 ///
-/// The alarms are those of the tools' dials, in the same order. While transfers wait for
-/// connections, a worker that spends a lease or a ticket ends the turns of the others by them, so
-/// that their waiters ask at once; without an alarm they ask ten milliseconds later at most.
+/// `alarms` has the alarm of each dial in `tools`, in the same order. While transfers wait for
+/// connections, a worker that spends a lease or a ticket wakes the others, so that their waiters
+/// check at once. A worker without an alarm checks at most ten milliseconds later.
 ///
 /// # Errors
 ///
