@@ -1,4 +1,4 @@
--- What the program does with its command line.
+-- Runs of the program: the output and the status of each request.
 use Rattle.std.specs.Prelude.{◌≡◌, ◌⊎◌, ℕ, Bool, List, string_bytes, Option, Some, None, Result, Ok, Err}
 use Rattle.std.specs.Option.{option_map}
 use Rattle.clap.specs.Words.{Kinds, Text}
@@ -20,37 +20,37 @@ abbrev pub status_of : {A : Type 0} → Result A ScriptFault → ℕ
 status_of (Ok done) = 0
 status_of (Err fault) = 3
 
--- the script on standard input was run: nothing else was read or written
+-- runs the script on standard input, and reads and writes nothing else
 pub record RunsAsked (traced : Bool) (unread left old new : Stream) (status : ℕ) : Type 0 where
   pub result : Result (Unit {0}) ScriptFault
   pub runs : RunsScript traced unread left old new result
   pub ends : status ≡ status_of result
 
--- the script in a file was run: nothing else was read or written
+-- runs the script in a file, and reads and writes nothing else
 pub record RunsNamed (Opens : Option Stream → Type 0) (traced : Bool) (unread left old new : Stream) (status : ℕ) : Type 0 where
   pub unread_yet : left ≡ unread
   pub result : Result (Unit {0}) ScriptFault
   pub runs : RunsFile traced Opens old new result
   pub ends : status ≡ status_of result
 
--- a script is read from the file of that name, or from standard input
+-- runs the script in the file of that name, or on standard input
 abbrev pub AnswersScript : Opening → Option Text → Bool → Stream → Stream → Stream → Stream → ℕ → Type 0
 AnswersScript Opens None traced unread left old new status = RunsAsked traced unread left old new status
 AnswersScript Opens (Some name) traced unread left old new status = RunsNamed (Opens name) traced unread left old new status
 
--- a text was told: nothing was read
+-- writes a text, and reads nothing
 pub record TellsText (text : List ℕ) (unread left old new : Stream) (status : ℕ) : Type 0 where
   pub unread_yet : left ≡ unread
   pub writes : WritesText text old new status
 
--- nothing was read or written
+-- ends with this status, and reads and writes nothing
 pub record EndsAtOnce (ending : ℕ) (unread left old new : Stream) (status : ℕ) : Type 0 where
   pub unread_yet : left ≡ unread
   pub unwritten : new ≡ old
   pub ends : status ≡ ending
 
--- the file of a picture could not be made, and nothing was read or written; or the script was run as it is without the
--- picture, and the status is 4 if the picture was not written
+-- creates no picture, and reads and writes nothing; or runs the script as without a picture, with status 4 if the picture
+-- was not written
 abbrev pub IsRunOrUnwritten : ℕ → ℕ → Type 0
 IsRunOrUnwritten ran status = (status ≡ ran) ⊎ (status ≡ 4)
 
@@ -58,21 +58,21 @@ abbrev pub AnswersPictured : Opening → Option Text → Bool → Stream → Str
 AnswersPictured Opens file traced unread left old new status =
     EndsAtOnce 4 unread left old new status ⊎ ((ran : ℕ) × AnswersScript Opens file traced unread left old new ran × IsRunOrUnwritten ran status)
 
--- a script is run, with a picture if one is asked for
+-- runs a script, with a picture if the words name one
 abbrev pub AnswersDrawn : Option Text → Opening → Option Text → Bool → Stream → Stream → Stream → Stream → ℕ → Type 0
 AnswersDrawn None Opens file traced unread left old new status = AnswersScript Opens file traced unread left old new status
 AnswersDrawn (Some picture) Opens file traced unread left old new status = AnswersPictured Opens file traced unread left old new status
 
--- what carrying out a plan may read and write, and its status
+-- the input, output and status that a run of `get` may have
 abbrev pub PlanRun : Type 1
 PlanRun = CrawlPlan → Stream → Stream → Stream → Stream → ℕ → Type 0
 
--- a load was carried out: nothing was read
+-- runs a load, and reads nothing
 pub record AnswersPlan (Runs : Stream → Stream → ℕ → Type 0) (unread left old new : Stream) (status : ℕ) : Type 0 where
   pub unread_yet : left ≡ unread
   pub runs : Runs old new status
 
--- what carrying out a load may write, and its status
+-- the output and status that a run of `load` may have
 abbrev pub LoadRun : Type 1
 LoadRun = LoadPlan → Stream → Stream → ℕ → Type 0
 
@@ -87,8 +87,8 @@ AnswersRequest Opens Runs Loads (requests.Tell text) unread left old new status 
 AnswersRequest Opens Runs Loads (requests.Refuse text) unread left old new status = EndsAtOnce 2 unread left old new status
 AnswersRequest Opens Runs Loads requests.NoMemory unread left old new status = EndsAtOnce 4 unread left old new status
 
--- what the program does with words that have these faults and say so, and its status: what is done for a request that
--- they may ask for, where so many wants of memory were counted before they were read and after
+-- the program answers a request that its words may make, by their faults and their meaning; `before` and `after` are the
+-- numbers of allocation failures before and after the words were read
 abbrev pub RunsProgram : Opening → PlanRun → LoadRun → Kinds → Said → ℕ → ℕ → Stream → Stream → Stream → Stream → ℕ → Type 0
 RunsProgram Opens Runs Loads faults said before after unread left old new status =
     (request : Request) × Asks faults said before after request × AnswersRequest Opens Runs Loads request unread left old new status

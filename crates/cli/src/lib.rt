@@ -1,5 +1,5 @@
-//! The parts of the program curlpool: it fetches URLs, runs loads and scripts, and audits traces, as
-//! its command line asks.
+//! The parts of the program curlpool: it fetches URLs, runs loads and scripts, and audits traces,
+//! as its command line says.
 #![tactic(auto)]
 
 mod auditing;

@@ -5,7 +5,8 @@ ghost use Rattle.clap.specs.Words.{FailsBy, app_of, kind_of};
 ghost use Rattle.clap.specs.Words.{subcommand_rows_of, with_subcommand};
 ghost use Rattle.command_line.specs.CommandLine.{audit_app, curlpool, faults_of, get_app};
 ghost use Rattle.command_line.specs.CommandLine.{load_app};
-ghost use Rattle.command_line.specs.CommandLine.{read_words, said_after, said_by, said_in, script_app};
+ghost use Rattle.command_line.specs.CommandLine.{read_words, said_after, said_by};
+ghost use Rattle.command_line.specs.CommandLine.{said_in, script_app};
 
 use crate::auditing::subcommand::audit_subcommand;
 use crate::auditing::words::{AuditWords, audit_words_of};

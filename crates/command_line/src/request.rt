@@ -2,7 +2,8 @@
 
 ghost use Rattle.std.specs.Prelude.{◌≡◌};
 ghost use Rattle.clap.specs.Words.{kind_of};
-ghost use Rattle.command_line.specs.CommandLine.{AnswersError, AnswersGet, AnswersLoad, Asks, class_of};
+ghost use Rattle.command_line.specs.CommandLine.{AnswersError, AnswersGet, AnswersLoad};
+ghost use Rattle.command_line.specs.CommandLine.{Asks, class_of};
 ghost use Rattle.command_line.specs.CommandLine.{said, word_faults};
 ghost use Rattle.command_line.specs.GetWords.{get_said_by};
 ghost use Rattle.command_line.specs.LoadWords.{load_said_by};

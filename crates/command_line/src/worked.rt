@@ -8,7 +8,8 @@ ghost use Rattle.command_line.specs.CommandLine.{TakesFile, TakesStandardInput, 
 ghost use Rattle.command_line.specs.CommandLine.{TakesUrls, TakesCrawl, RefusesTwice};
 ghost use Rattle.command_line.specs.CommandLine.{TakesNumbers, WantsNumber, RefusesNumberTwice};
 ghost use Rattle.command_line.specs.CommandLine.{TakesMeasured};
-ghost use Rattle.command_line.specs.CommandLine.{TakesTrace, RefusesFlagTwice, TakesTraceFlag, TakesPicture};
+ghost use Rattle.command_line.specs.CommandLine.{TakesTrace, RefusesFlagTwice};
+ghost use Rattle.command_line.specs.CommandLine.{TakesTraceFlag, TakesPicture};
 ghost use Rattle.command_line.specs.LoadRequests.{ReadsPercentages, RefusesPercentages};
 ghost use Rattle.command_line.specs.Resolving.{ReadsResolves, RefusesResolves};
 

@@ -3,7 +3,8 @@
 ghost use Rattle.std.specs.Prelude.{◌≡◌, option_map, string_bytes};
 ghost use Rattle.std.specs.Prelude.{IfOk, IfErr};
 ghost use Rattle.command_line.specs.CrawlWords.{crawl_said_by, flags_said, max_life_said};
-ghost use Rattle.command_line.specs.GetPlans.{AreOptionsOf, IsPlanOf, IsGetRefused, SaysNumber, method_said};
+ghost use Rattle.command_line.specs.GetPlans.{AreOptionsOf, IsPlanOf, IsGetRefused};
+ghost use Rattle.command_line.specs.GetPlans.{SaysNumber, method_said};
 ghost use Rattle.command_line.specs.GetWords.{get_said_by, max_age_said, timeout_said};
 ghost use Rattle.command_line.specs.LoadWords.{number_said};
 

@@ -4,7 +4,8 @@ ghost use Rattle.std.specs.Prelude.{◌≡◌, false, IfOk};
 ghost use Rattle.clap.specs.Words.{app_of, with_rule};
 ghost use Rattle.clap.specs.declared.builder.command.Command.TheViews.{out-Command};
 ghost use Rattle.command_line.specs.CommandLine.{list_rule, load_app, value_rule};
-ghost use Rattle.command_line.specs.CommandLine.{with_lists, with_load_flags, with_numbers, with_times};
+ghost use Rattle.command_line.specs.CommandLine.{with_lists, with_load_flags};
+ghost use Rattle.command_line.specs.CommandLine.{with_numbers, with_times};
 
 use crate::flags::{described, with_flag};
 use crate::help::REPORT;
