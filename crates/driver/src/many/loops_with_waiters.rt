@@ -4,8 +4,8 @@ use std::sync::atomic::{AtomicU64, Ordering};
 
 /// Number of loops of a run that have waiters. While it is 0, no loop rings.
 ///
-/// No grant is lost: a loop that counts itself checks its waiters afterwards, and a loop that spends
-/// a lease reads the number afterwards. So the check finds the grant, or the ring comes.
+/// No grant is lost: a loop that counts itself checks its waiters afterwards, and a loop that
+/// spends a lease reads the number afterwards. So the check finds the grant, or the ring comes.
 #[derive(Drop)]
 pub(crate) struct LoopsWithWaiters {
     number: AtomicU64,
