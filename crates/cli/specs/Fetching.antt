@@ -15,7 +15,7 @@ use Rattle.script_run.specs.Streams.{Stream}
 use Rattle.cli.specs.Auditing.{Opening}
 use Rattle.command_line.specs.GetPlans.{plan_file}
 use Rattle.command_line.specs.Inputs.{asked_file}
-use Rattle.command_line.specs.declared.get.plan.CrawlPlan.{CrawlPlan}
+use Rattle.command_line.specs.declared.get_plan.CrawlPlan.{CrawlPlan}
 
 -- 0 if each URL has a good response and its line, 2 if a bad URL ended the crawl, else 4
 abbrev pub status_by : Option CrawlFault → ℕ → ℕ

@@ -8,7 +8,7 @@ use Rattle.script_run.specs.Streams.{PutFails, Puts, Stream}
 use Rattle.conn_log.specs.declared.entry.Entry.{Entry}
 use Rattle.log_trace.specs.Uses.{AreUsesOf}
 use Rattle.log_trace.specs.declared.host_trace.HostTrace.{HostTrace}
-use Rattle.command_line.specs.declared.load.options.LoadOptions.{LoadOptions}
+use Rattle.command_line.specs.declared.load_limits.LoadOptions.{LoadOptions}
 use Rattle.cli.specs.declared.loading.tracing.LoadTrace.{LoadTrace}
 use Rattle.cli.specs.declared.loading.tracing.LoadTrace.TheVariants.{Open, Failed}
 use Rattle.cli.specs.declared.loading.tracing.OpenTrace.{OpenTrace}

@@ -3,7 +3,7 @@ use Rattle.std.specs.Prelude.{◌≡◌, ℕ, codes, string_bytes, Result, Ok, E
 use Rattle.clap.specs.Words.{Text}
 use Rattle.script_text.specs.declared.fault.FaultKind.{FaultKind}
 use Rattle.script_run.specs.Streams.{Stream, Puts}
-use Rattle.command_line.specs.declared.load.plan.LoadPlan.{LoadPlan}
+use Rattle.command_line.specs.declared.load_plan.LoadPlan.{LoadPlan}
 use Rattle.cli.specs.declared.loading.outcome.LoadOutcome.{LoadOutcome}
 use Rattle.cli.specs.declared.loading.failure.LoadFailure.{LoadFailure}
 use Rattle.cli.specs.declared.loading.fault.LoadFault.{LoadFault}

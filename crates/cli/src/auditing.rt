@@ -5,6 +5,7 @@ ghost use Rattle.cli.specs.Auditing.{AnswersAudit, audit_status, stop_status};
 ghost use Rattle.command_line.specs.Inputs.{name_of};
 ghost use Rattle.script_run.specs.Streams.{CanCount};
 
+use crate::system::System;
 use audit_run::{AuditStop, Verdict, audit_file, audit_stream};
 use command_line::{AuditWords, ScriptInput};
 use script_run::{ScriptFiles, Sink, Source};
@@ -28,20 +29,17 @@ const STANDARD: &str = "trace";
 
 /// Judges the trace that is read from there, writes the answer on `output`, tells on `errors` why
 /// there is no verdict, and answers the status.
-pub(crate) fn answer_audit<F: ScriptFiles, R: Source, W: Sink, E: Write>(
+pub(crate) fn answer_audit<F: ScriptFiles, N, R: Source, W: Sink, E: Write>(
     alloc: Global,
     words: AuditWords,
-    files: &mut F,
-    input: &mut R,
-    output: &mut W,
-    errors: &mut E,
+    system: &mut System<F, N, R, W, E>,
 ) -> u8
-    requires input { CanCount (R.source input.old) }
-    requires output { CanCount (W.sink output.old) }
-    ensures answers { AnswersAudit (F.opens files.old files.new) (name_of words.input)
-        words.telling (R.source input.old) (R.source input.new) (W.sink output.old)
-        (W.sink output.new) result }
-    ensures unopened { name_of words.input ≡ None → files.new ≡ files.old }
+    requires input { CanCount (R.source system.old.input) }
+    requires output { CanCount (W.sink system.old.output) }
+    ensures answers { AnswersAudit (F.opens system.old.files system.new.files)
+        (name_of words.input) words.telling (R.source system.old.input)
+        (R.source system.new.input) (W.sink system.old.output) (W.sink system.new.output) result }
+    ensures unopened { name_of words.input ≡ None → system.new.files ≡ system.old.files }
 {
     let AuditWords {
         telling,
@@ -49,12 +47,14 @@ pub(crate) fn answer_audit<F: ScriptFiles, R: Source, W: Sink, E: Write>(
     } = words;
     match from {
         ScriptInput::Standard => {
+            let System { input, output, .. } = system;
             let audited = audit_stream(alloc, STANDARD, telling, input, output);
-            status_told(errors, audited)
+            status_told(&mut system.errors, audited)
         }
         ScriptInput::File(name) => {
+            let System { files, output, .. } = system;
             let audited = audit_file(alloc, files, name.as_str(), telling, output);
-            status_told(errors, audited)
+            status_told(&mut system.errors, audited)
         }
     }
 }

@@ -10,6 +10,7 @@ pub(crate) mod system_names;
 pub(crate) mod system_network;
 
 use crate::file_fault::{FileAction, write_file_fault};
+use crate::system::System;
 use client::{Crawl, CrawlFault, Crawled, Network};
 use command_line::CrawlPlan;
 use crawl_input::UrlFile;
@@ -27,24 +28,21 @@ const BAD_URL: u8 = 2;
 /// A URL has no good response, or no line.
 const FAILED: u8 = 4;
 
-/// Carries out a plan: fetches the URLs among the words, and then the URLs in its file, which is
-/// one of `files`, or `input`, and writes a line on `output` as each transfer ends. Returns the
-/// status: 0 if each URL has a good response and its line, 2 if a line of the file is a bad URL,
-/// else 4. Reports faults on `errors`.
+/// Carries out a plan: fetches the URLs among the words, and then the URLs in its file, which may
+/// be standard input, and writes a line as each transfer ends. Returns the status: 0 if each URL
+/// has a good response and its line, 2 if a line of the file is a bad URL, else 4. Reports faults
+/// on standard error.
 pub fn run_get<N: Network, F: ScriptFiles, R: Source, W: Sink, E: Write>(
     alloc: Global,
     plan: CrawlPlan,
-    network: &N,
-    files: &mut F,
-    input: &mut R,
-    output: &mut W,
-    errors: &mut E,
+    system: &mut System<F, N, R, W, E>,
 ) -> u8
-    requires input { CanCount (R.source input.old) }
-    requires output { CanCount (W.sink output.old) }
-    ensures runs { RunsGet N.Crawler.crawled N.Crawler.finished (F.opens files.old files.new) plan
-        (R.source input.old) (R.source input.new) (W.sink output.old) (W.sink output.new) result }
-    ensures unopened { plan_file plan ≡ None → files.new ≡ files.old }
+    requires input { CanCount (R.source system.old.input) }
+    requires output { CanCount (W.sink system.old.output) }
+    ensures runs { RunsGet N.Crawler.crawled N.Crawler.finished
+        (F.opens system.old.files system.new.files) plan (R.source system.old.input)
+        (R.source system.new.input) (W.sink system.old.output) (W.sink system.new.output) result }
+    ensures unopened { plan_file plan ≡ None → system.new.files ≡ system.old.files }
 {
     let CrawlPlan {
         options,
@@ -56,9 +54,17 @@ pub fn run_get<N: Network, F: ScriptFiles, R: Source, W: Sink, E: Write>(
         alloc,
         options,
         urls,
-        file: kind_of(files, &file),
+        file: kind_of(&system.files, &file),
         resolved,
     };
+    let System {
+        files,
+        network,
+        input,
+        output,
+        errors,
+        ..
+    } = system;
     let Some(name) = &file else {
         let mut nothing: &[u8] = &[];
         return run_crawl(crawl, None, network, &mut nothing, output, errors);

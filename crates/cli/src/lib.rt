@@ -8,6 +8,7 @@ mod get;
 mod loading;
 mod program;
 mod script;
+mod system;
 
 pub use get::run_get;
 pub use get::system_names::{SystemNames, SystemResolver, look_up_threads};
@@ -17,4 +18,5 @@ pub use loading::fault::LoadFault;
 pub use loading::outcome::LoadOutcome;
 pub use loading::run_load;
 pub use loading::system::load_on_system;
-pub use program::{answer_request, run_program};
+pub use program::run_program;
+pub use system::System;

@@ -13,8 +13,9 @@ use crate::loading::failure::LoadFailure;
 use crate::loading::outcome::LoadOutcome;
 use crate::loading::run_load;
 use crate::script::answer_script;
+use crate::system::System;
 use client::Network;
-use command_line::{ArgsAlloc, LoadPlan, Request, ScriptInput, ScriptWords, Words, asked_by};
+use command_line::{ArgsAlloc, LoadPlan, Request, ScriptInput, ScriptWords, Words};
 use script_run::{ScriptFiles, Sink, Source};
 use std::alloc::Global;
 use std::io::Write;
@@ -41,11 +42,11 @@ const HOW_TO_END: &str = "Write a script, and end it with Ctrl-D on an empty lin
 ///   line, or a script's picture, a load's report, an audit's answer, help or the version was not
 ///   written whole.
 ///
-/// The script, the trace or more URLs are read from the file among `files` that the words name, or
-/// else from `input`. URLs are fetched over `network`, and `load` carries out loads. `output` gets
-/// the transcript, the lines of transfers, the report, the answer, the help or the version, and
-/// nothing else. `errors` gets what goes wrong, and first how to end a script from `input` if that
-/// `is_typed` on a terminal.
+/// The script, the trace or more URLs are read from the file that the words name, or else from
+/// standard input. URLs are fetched over the system's network, and `load` carries out loads.
+/// Standard output gets the transcript, the lines of transfers, the report, the answer, the help or
+/// the version, and nothing else. Standard error gets what goes wrong, and first how to end a
+/// script that is typed on a terminal.
 pub fn run_program<
     M: ArgsAlloc,
     F: ScriptFiles,
@@ -54,87 +55,69 @@ pub fn run_program<
     R: Source,
     W: Sink,
     E: Write,
->(
-    alloc: Global,
-    memory: &mut M,
-    words: Words,
-    is_typed: bool,
-    files: &mut F,
-    network: &N,
-    load: L,
-    input: &mut R,
-    output: &mut W,
-    errors: &mut E,
-) -> u8
-    requires input { CanCount (R.source input.old) }
-    requires output { CanCount (W.sink output.old) }
+>(alloc: Global, memory: &mut M, words: Words, load: L, system: &mut System<F, N, R, W, E>) -> u8
+    requires input { CanCount (R.source system.old.input) }
+    requires output { CanCount (W.sink system.old.output) }
     requires load { L.IsAlwaysCallable load }
-    ensures runs { RunsProgram (F.opens files.old files.new)
-        (RunsGet N.Crawler.crawled N.Crawler.finished (F.opens files.old files.new))
+    ensures runs { RunsProgram (F.opens system.old.files system.new.files)
+        (RunsGet N.Crawler.crawled N.Crawler.finished (F.opens system.old.files system.new.files))
         (RunsLoad (L.post load alloc)) (word_faults words) (said words) (M.wants memory.old)
-        (M.wants memory.new) (R.source input.old) (R.source input.new) (W.sink output.old)
-        (W.sink output.new) result }
-    ensures unopened { file_said (said words) ≡ None → files.new ≡ files.old }
+        (M.wants memory.new) (R.source system.old.input) (R.source system.new.input)
+        (W.sink system.old.output) (W.sink system.new.output) result }
+    ensures unopened { file_said (said words) ≡ None → system.new.files ≡ system.old.files }
 {
-    let request = asked_by(memory, words);
-    if is_typed && asks_for_input(&request) {
-        say(errors, HOW_TO_END);
+    let request = memory.request(words);
+    say(&mut system.errors, hint_for(&request, system.is_typed));
+    answer_request(alloc, request, load, system)
+}
+
+/// Returns the text that comes first on standard error: how to end a script, if one is typed on a
+/// terminal.
+fn hint_for(request: &Request, is_typed: bool) -> &'static str {
+    match request {
+        Request::Script(
+            ScriptWords {
+                input: ScriptInput::Standard,
+                ..
+            },
+        ) if is_typed => HOW_TO_END,
+        _ => "",
     }
-    answer_request(alloc, request, files, network, load, input, output, errors)
 }
 
-/// Whether the script on standard input is to be run.
-fn asks_for_input(request: &Request) -> bool {
-    matches!(
-        request,
-        Request::Script(ScriptWords {
-            input: ScriptInput::Standard,
-            ..
-        })
-    )
-}
-
-/// Does what is asked for, and answers the status: runs the script, fetches the URLs, carries out
-/// the load, judges the trace, tells help or the version on `output`, or tells on `errors` why
-/// nothing is done.
-pub fn answer_request<
+/// Answers a request, and returns the status: runs the script, fetches the URLs, carries out the
+/// load, judges the trace, prints help or the version, or reports why nothing is done.
+fn answer_request<
     F: ScriptFiles,
     N: Network,
     L: FnOnce(Global, LoadPlan) -> Result<LoadOutcome, LoadFailure> + Drop,
     R: Source,
     W: Sink,
     E: Write,
->(
-    alloc: Global,
-    request: Request,
-    files: &mut F,
-    network: &N,
-    load: L,
-    input: &mut R,
-    output: &mut W,
-    errors: &mut E,
-) -> u8
-    requires input { CanCount (R.source input.old) }
-    requires output { CanCount (W.sink output.old) }
+>(alloc: Global, request: Request, load: L, system: &mut System<F, N, R, W, E>) -> u8
+    requires input { CanCount (R.source system.old.input) }
+    requires output { CanCount (W.sink system.old.output) }
     requires load { L.IsAlwaysCallable load }
-    ensures answers { AnswersRequest (F.opens files.old files.new)
-        (RunsGet N.Crawler.crawled N.Crawler.finished (F.opens files.old files.new))
-        (RunsLoad (L.post load alloc)) request (R.source input.old) (R.source input.new)
-        (W.sink output.old) (W.sink output.new) result }
-    ensures unopened { request_file request ≡ None → files.new ≡ files.old }
+    ensures answers { AnswersRequest (F.opens system.old.files system.new.files)
+        (RunsGet N.Crawler.crawled N.Crawler.finished (F.opens system.old.files system.new.files))
+        (RunsLoad (L.post load alloc)) request (R.source system.old.input)
+        (R.source system.new.input) (W.sink system.old.output) (W.sink system.new.output) result }
+    ensures unopened { request_file request ≡ None → system.new.files ≡ system.old.files }
 {
     match request {
-        Request::Script(words) => answer_script(alloc, words, files, input, output, errors),
-        Request::Get(plan) => run_get(alloc, plan, network, files, input, output, errors),
-        Request::Load(plan) => run_load(alloc, plan, load, output, errors),
-        Request::Audit(words) => answer_audit(alloc, words, files, input, output, errors),
-        Request::Tell(text) => tell(text.as_str(), output, errors),
+        Request::Script(words) => answer_script(alloc, words, system),
+        Request::Get(plan) => run_get(alloc, plan, system),
+        Request::Load(plan) => {
+            run_load(alloc, plan, load, &mut system.output, &mut system.errors)
+        }
+        Request::Audit(words) => answer_audit(alloc, words, system),
+        Request::Tell(text) => tell(text.as_str(), &mut system.output, &mut system.errors),
         Request::Refuse(text) => {
-            say(errors, text.as_str());
+            say(&mut system.errors, text.as_str());
             BAD_WORDS
         }
         Request::NoMemory => {
-            say(errors, "run: out of memory\n");
+            say(&mut system.errors, "run: out of memory\n");
             FAILED
         }
     }

@@ -9,6 +9,7 @@ ghost use Rattle.script_run.specs.Streams.{CanCount};
 mod picturing;
 
 use crate::file_fault::{FileAction, write_file_fault};
+use crate::system::System;
 use command_line::{ScriptInput, ScriptWords};
 use picturing::Painter;
 use script_run::{ScriptFiles, Sink, Source, Unseen, Viewer, run_file_for, run_script_for};
@@ -28,20 +29,18 @@ const UNWRITTEN: u8 = 4;
 /// Runs the script that is read from there, tells of its fault on `errors`, and answers the status.
 /// If the words name a file for the picture, it is made before, and gets the picture after the
 /// script; if that fails, it is told, and the status is 4.
-pub(crate) fn answer_script<F: ScriptFiles, R: Source, W: Sink, E: Write>(
+pub(crate) fn answer_script<F: ScriptFiles, N, R: Source, W: Sink, E: Write>(
     alloc: Global,
     words: ScriptWords,
-    files: &mut F,
-    input: &mut R,
-    output: &mut W,
-    errors: &mut E,
+    system: &mut System<F, N, R, W, E>,
 ) -> u8
-    requires input { CanCount (R.source input.old) }
-    requires output { CanCount (W.sink output.old) }
+    requires input { CanCount (R.source system.old.input) }
+    requires output { CanCount (W.sink system.old.output) }
     ensures answers { AnswersDrawn (option_map string_bytes words.picture)
-        (F.opens files.old files.new) (name_of words.input) words.is_traced
-        (R.source input.old) (R.source input.new) (W.sink output.old) (W.sink output.new) result }
-    ensures unopened { name_of words.input ≡ None → files.new ≡ files.old }
+        (F.opens system.old.files system.new.files) (name_of words.input) words.is_traced
+        (R.source system.old.input) (R.source system.new.input)
+        (W.sink system.old.output) (W.sink system.new.output) result }
+    ensures unopened { name_of words.input ≡ None → system.new.files ≡ system.old.files }
 {
     let ScriptWords {
         is_traced,
@@ -49,45 +48,38 @@ pub(crate) fn answer_script<F: ScriptFiles, R: Source, W: Sink, E: Write>(
         input: from,
     } = words;
     match picture {
-        None => {
-            let viewer = &mut Unseen;
-            run_seen(alloc, is_traced, from, files, input, output, errors, viewer)
-        }
-        Some(name) => {
-            let name = name.as_str();
-            run_pictured(alloc, is_traced, name, from, files, input, output, errors)
-        }
+        None => { run_seen(alloc, is_traced, from, system, &mut Unseen) }
+        Some(name) => { run_pictured(alloc, is_traced, name.as_str(), from, system) }
     }
 }
 
 /// Runs the script that is read from there, draws its picture into the file of that name, tells
 /// what goes wrong on `errors`, and answers the status.
-fn run_pictured<F: ScriptFiles, R: Source, W: Sink, E: Write>(
+fn run_pictured<F: ScriptFiles, N, R: Source, W: Sink, E: Write>(
     alloc: Global,
     is_traced: bool,
     name: &str,
     from: ScriptInput,
-    files: &mut F,
-    input: &mut R,
-    output: &mut W,
-    errors: &mut E,
+    system: &mut System<F, N, R, W, E>,
 ) -> u8
-    requires input { CanCount (R.source input.old) }
-    requires output { CanCount (W.sink output.old) }
-    ensures answers { AnswersPictured (F.opens files.old files.new) (name_of from) is_traced
-        (R.source input.old) (R.source input.new) (W.sink output.old) (W.sink output.new) result }
-    ensures unopened { name_of from ≡ None → files.new ≡ files.old }
+    requires input { CanCount (R.source system.old.input) }
+    requires output { CanCount (W.sink system.old.output) }
+    ensures answers { AnswersPictured (F.opens system.old.files system.new.files) (name_of from)
+        is_traced (R.source system.old.input) (R.source system.new.input)
+        (W.sink system.old.output) (W.sink system.new.output) result }
+    ensures unopened { name_of from ≡ None → system.new.files ≡ system.old.files }
 {
-    let mut file = match files.create(name) {
+    let mut file = match system.files.create(name) {
         Ok(file) => file,
         Err(reason) => {
+            let errors = &mut system.errors;
             write_file_fault(alloc, errors, FileAction::Write, name, Some(reason));
             return UNWRITTEN;
         }
     };
     let mut painter = Painter::new(alloc);
-    let viewer = &mut painter;
-    let status = run_seen(alloc, is_traced, from, files, input, output, errors, viewer);
+    let status = run_seen(alloc, is_traced, from, system, &mut painter);
+    let errors = &mut system.errors;
     match painter.write_to(&mut file) {
         Ok(()) => status,
         Err(FaultKind::Memory) => {
@@ -103,30 +95,30 @@ fn run_pictured<F: ScriptFiles, R: Source, W: Sink, E: Write>(
 
 /// Runs the script that is read from there, which that viewer sees, tells of its fault on `errors`,
 /// and answers the status.
-fn run_seen<F: ScriptFiles, R: Source, W: Sink, E: Write, V: Viewer>(
+fn run_seen<F: ScriptFiles, N, R: Source, W: Sink, E: Write, V: Viewer>(
     alloc: Global,
     is_traced: bool,
     from: ScriptInput,
-    files: &mut F,
-    input: &mut R,
-    output: &mut W,
-    errors: &mut E,
+    system: &mut System<F, N, R, W, E>,
     viewer: &mut V,
 ) -> u8
-    requires input { CanCount (R.source input.old) }
-    requires output { CanCount (W.sink output.old) }
-    ensures answers { AnswersScript (F.opens files.old files.new) (name_of from) is_traced
-        (R.source input.old) (R.source input.new) (W.sink output.old) (W.sink output.new) result }
-    ensures unopened { name_of from ≡ None → files.new ≡ files.old }
+    requires input { CanCount (R.source system.old.input) }
+    requires output { CanCount (W.sink system.old.output) }
+    ensures answers { AnswersScript (F.opens system.old.files system.new.files) (name_of from)
+        is_traced (R.source system.old.input) (R.source system.new.input)
+        (W.sink system.old.output) (W.sink system.new.output) result }
+    ensures unopened { name_of from ≡ None → system.new.files ≡ system.old.files }
 {
     match from {
         ScriptInput::Standard => {
+            let System { input, output, .. } = system;
             let ran = run_script_for(alloc, is_traced, input, output, viewer);
-            status_told(errors, ran)
+            status_told(&mut system.errors, ran)
         }
         ScriptInput::File(name) => {
+            let System { files, output, .. } = system;
             let ran = run_file_for(alloc, is_traced, files, name.as_str(), output, viewer);
-            status_told(errors, ran)
+            status_told(&mut system.errors, ran)
         }
     }
 }

@@ -3,7 +3,7 @@
 use crate::checks::check_eq;
 use crate::networks::FakeNames;
 use crate::running::words_of;
-use cli::{LoadFault, SystemNetwork, run_program};
+use cli::{LoadFault, System, SystemNetwork, run_program};
 use client::{LookUps, Network, NetworkFault};
 use command_line::CountedArgsAlloc;
 use crawl_input::CrawlOptions;
@@ -77,26 +77,25 @@ fn get<H: RandomSource + AllocGlobal + Wait>(
     let words = words_of(alloc, words)?;
     let look_ups = LookUps::new(waits, alloc);
     let mut memory = CountedArgsAlloc::new(alloc);
-    let mut files = SystemFiles::new(system);
     let network = NamedNetwork {
         network: SystemNetwork::new(system, waits, &look_ups, false),
         names: FakeNames::new(alloc),
     };
-    let mut input = input.as_bytes();
-    let mut output = Vec::new(alloc);
-    let mut errors = Vec::new(alloc);
-    let status = run_program(
-        alloc,
-        &mut memory,
-        words,
-        false,
-        &mut files,
-        &network,
-        |_, _| Err(LoadFault::Listen.into()),
-        &mut input,
-        &mut output,
-        &mut errors,
-    );
+    let mut program = System {
+        files: SystemFiles::new(system),
+        network,
+        input: input.as_bytes(),
+        is_typed: false,
+        output: Vec::new(alloc),
+        errors: Vec::new(alloc),
+    };
+    let load = |_, _| Err(LoadFault::Listen.into());
+    let status = run_program(alloc, &mut memory, words, load, &mut program);
+    let System {
+        network,
+        output,
+        ..
+    } = program;
     Ok((status, output, network.names.lookups.load(Ordering::SeqCst)))
 }
 

@@ -230,7 +230,7 @@ fn names_are_looked_up_once(rt: HostRuntime) {
 /// begins.
 static REFUSED: [(&str, &str); 1] = [(
     "get http://localhost/ http://127.0.0.1/\u{0}",
-    "curlpool: http://127.0.0.1/\\x00: a control character\n",
+    "error: invalid value 'http://127.0.0.1/\\x00' for '[URL]...': a control character\n",
 )];
 
 #[test]

@@ -336,8 +336,8 @@ fn addresses_are_given(rt: HostRuntime) {
         let given = words_of(rt.alloc(), words.as_str()).expect(&rt, "memory");
         let network = FakeNetwork::new(rt.alloc(), None);
         let mut loader = FakeLoader::new(Ok("all\n"));
-        let mut output = Vec::new(rt.alloc());
-        let (status, _) = run(rt.alloc(), given, "", &network, &mut loader, &mut output);
+        let output = Vec::new(rt.alloc());
+        let (status, _) = run(rt.alloc(), given, "", network, &mut loader, output);
         assert_eq!(rt; status, 0, "{value}");
         let plan = loader.plan.as_ref().expect(&rt, "a plan");
         let resolved = plan.resolved.first().expect(&rt, "an address");

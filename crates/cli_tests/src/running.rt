@@ -7,7 +7,7 @@ use crate::audits::BROKEN;
 use crate::loads::FakeLoader;
 use crate::networks::FakeNetwork;
 use crate::streams::Expecting;
-use cli::{LoadFault, run_program};
+use cli::{LoadFault, System, run_program};
 use client::NetworkFault;
 use command_line::{CountedArgsAlloc, Words};
 use script_run::{FailureCounted, ScriptFiles, Sink};
@@ -58,10 +58,10 @@ const NO_SUCH_FILE: i32 = 2;
 /// URLs, a line each.
 const URLS: &str = "http://127.0.0.1/f\nhttp://127.0.0.1/gg\n";
 
-// Files in memory: a script that ends at a fault, and URLs. Files can be made of two names, one of
-// which is full.
+/// Files in memory: a script that ends at a fault, and URLs. Files can be made of two names, one of
+/// which is full.
 #[derive(Drop)]
-struct FilesInMemory;
+pub struct FilesInMemory;
 
 impl ScriptFiles for FilesInMemory {
     type File = &'static [u8];
@@ -118,35 +118,33 @@ pub fn words_of(alloc: Global, text: &str) -> Result<Words, AllocError> {
     Ok(Words::Given(words))
 }
 
+/// The system of a test. Its files are in memory.
+pub type TestSystem<'a, W> = System<FilesInMemory, FakeNetwork, &'a [u8], W, Vec<u8>>;
+
 /// Runs the program with these words and that script on standard input, which is no terminal, next
-/// to the files `broken` and `urls`: its status, and its text on standard error.
-pub fn run<W: Sink>(
+/// to the files `broken` and `urls`. Returns its status, and the system after the run.
+pub fn run<'a, W: Sink>(
     alloc: Global,
     words: Words,
-    script: &str,
-    network: &FakeNetwork,
+    script: &'a str,
+    network: FakeNetwork,
     loader: &mut FakeLoader<'_>,
-    output: &mut W,
-) -> (u8, Vec<u8>)
-    requires { CanCount (W.sink output.old) }
+    output: W,
+) -> (u8, TestSystem<'a, W>)
+    requires { CanCount (W.sink output.entry) }
 {
     let mut memory = CountedArgsAlloc::new(alloc);
-    let mut files = FilesInMemory;
-    let mut input = script.as_bytes();
-    let mut errors = Vec::new(alloc);
-    let status = run_program(
-        alloc,
-        &mut memory,
-        words,
-        false,
-        &mut files,
+    let mut system = System {
+        files: FilesInMemory,
         network,
-        |alloc, plan| loader.load(alloc, plan),
-        &mut input,
+        input: script.as_bytes(),
+        is_typed: false,
         output,
-        &mut errors,
-    );
-    (status, errors)
+        errors: Vec::new(alloc),
+    };
+    let load = |alloc, plan| loader.load(alloc, plan);
+    let status = run_program(alloc, &mut memory, words, load, &mut system);
+    (status, system)
 }
 
 // That bytes are the text of the row with that name.
@@ -167,19 +165,12 @@ pub fn check_words<R: Abort + AllocGlobal>(
 ) -> (FakeNetwork, FakeLoader<'static>) {
     let network = FakeNetwork::new(rt.alloc(), row.network);
     let mut loader = FakeLoader::new(row.load);
-    let mut output = Vec::new(rt.alloc());
-    let (status, errors) = run(
-        rt.alloc(),
-        words,
-        row.script,
-        &network,
-        &mut loader,
-        &mut output,
-    );
-    check_text(rt, row.name, errors.as_slice(), row.errors);
-    check_text(rt, row.name, output.as_slice(), row.output);
+    let output = Vec::new(rt.alloc());
+    let (status, system) = run(rt.alloc(), words, row.script, network, &mut loader, output);
+    check_text(rt, row.name, system.errors.as_slice(), row.errors);
+    check_text(rt, row.name, system.output.as_slice(), row.output);
     assert_eq!(rt; status, row.status, "{}", row.name);
-    (network, loader)
+    (system.network, loader)
 }
 
 /// That the program does what the row says.
@@ -200,18 +191,12 @@ pub fn check_stopped<R: Abort + AllocGlobal>(
     let mut writer = Expecting::new(written, takes_none);
     let network = FakeNetwork::new(rt.alloc(), row.network);
     let mut loader = FakeLoader::new(row.load);
-    let mut output = FailureCounted::new(&mut writer);
-    let (status, errors) = run(
-        rt.alloc(),
-        words,
-        row.script,
-        &network,
-        &mut loader,
-        &mut output,
-    );
-    assert!(rt; writer.rest.is_empty(), "{}", row.name);
-    check_text(rt, row.name, errors.as_slice(), row.errors);
+    let output = FailureCounted::new(&mut writer);
+    let (status, system) = run(rt.alloc(), words, row.script, network, &mut loader, output);
+    check_text(rt, row.name, system.errors.as_slice(), row.errors);
     assert_eq!(rt; status, row.status, "{}", row.name);
+    drop(system);
+    assert!(rt; writer.rest.is_empty(), "{}", row.name);
 }
 
 /// That the program does what the rows say.

@@ -1,9 +1,8 @@
-pub mod CommandLines
 pub mod Plans
-pub mod GetRows
-pub mod LoadRows
-pub mod FlagRows
-pub mod LoadRefusals
+pub mod OptionValues
+pub mod Refusals
+pub mod Requests
 pub mod Percentages
+pub mod Durations
 pub mod UrlJobs
 pub mod Resolves

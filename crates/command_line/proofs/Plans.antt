@@ -1,14 +1,16 @@
 -- The URLs of a plan: bad and good ones, and that there is one.
-use Rattle.std.proofs.Common.{◌≡◌, ℕ, ◌+◌, ◌<◌, true, false, List, [], ◌∷◌, ◌++◌, length, get_or, take, map, ap, refl, sym, ◌∙◌, subst, string_bytes, append_assoc, arith}
-use Rattle.std.specs.Prelude.{String, Option, None, Some, ◌==◌, is_some, option_map, reverse, Result, Ok, Err, IfErr, IsErrAnd}
+use Rattle.std.proofs.Common.{◌≡◌, ℕ, ◌+◌, ◌<◌, true, false, List, [], ◌∷◌, ◌++◌, length, get_or, take, map, ap, refl, sym, ◌∙◌, string_bytes, append_assoc, arith}
+use Rattle.std.specs.Prelude.{String, Option, None, Some, ◌==◌, is_some, option_map, reverse}
+use Rattle.std.specs.List.{Any}
 use Rattle.std.specs.Global.{Global}
 use Rattle.std.proofs.lemmas.List.{get_or-append-add, length-append, map-append, map_more, reverse-append}
 use Rattle.clap.specs.Words.{Text}
 use Rattle.crawl_input.specs.Given.{url_text, url_texts}
 use Rattle.crawl_input.specs.declared.url.CrawlUrl.{CrawlUrl}
-use Rattle.command_line.specs.GetPlans.{IsUrlRefused, AreUrlsRefused}
-use Rattle.command_line.specs.declared.get.plan.GetRefusal.{GetRefusal}
-use Rattle.command_line.specs.declared.get.plan.GetRefusal.TheVariants.{Memory, Wrong}
+use Rattle.crawl_input.specs.Urls.{IsBadUrl}
+use Rattle.command_line.specs.Refusals.{IsWhy}
+use Rattle.command_line.specs.declared.refusal.Refusal.{Refusal}
+use Rattle.command_line.specs.declared.refusal.Refusal.TheVariants.{Memory, Wrong}
 
 -- the first URL that is left
 pub first-url : (old new : List (String Global)) (url : String Global) → old ≡ new ++ url ∷ [] → map string_bytes (reverse old) ≡ string_bytes url ∷ map string_bytes (reverse new)
@@ -23,16 +25,11 @@ pub made-first : (old new left : List Text) (url : Text) → new ≡ old ++ url 
 made-first old new left url is = ap (λ l. l ++ left) is ∙ append_assoc old (url ∷ []) left
 
 -- the URL after those that were made is refused
-pub refused-next : (made left : List Text) (url : Text) (refusal : GetRefusal) → IsUrlRefused url refusal → AreUrlsRefused (made ++ url ∷ left) refusal
+pub refused-next : (made left : List Text) (url : Text) (refusal : Refusal) → IsWhy (IsBadUrl url) refusal → IsWhy (Any IsBadUrl (made ++ url ∷ left)) refusal
 refused-next made left url Memory why = tt
 refused-next made left url (Wrong text) why =
     let all : length (made ++ url ∷ left) ≡ length made + length (url ∷ left) = length-append made (url ∷ left) in
     (length made + 0, url, omega (arith, all), get_or-append-add made (url ∷ left) 0 url, why)
-
--- a refusal that is handed on has the same reason
-pub hands-on : {A : Type 0} (urls : List Text) (refusal : GetRefusal) (result : Result A GetRefusal) → IsErrAnd result (λ other. other ≡ refusal) → AreUrlsRefused urls refusal → IfErr result (AreUrlsRefused urls)
-hands-on urls refusal (Ok done) same why = tt
-hands-on urls refusal (Err other) same why = subst (AreUrlsRefused urls) (sym same) why
 
 -- no URL is left
 pub none-left : (urls : List (String Global)) → length urls ≡ 0 → map string_bytes (reverse urls) ≡ []

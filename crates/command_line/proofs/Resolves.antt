@@ -1,6 +1,6 @@
 -- Addresses by the values of `--resolve`.
 use Rattle.std.proofs.Common.{◌≡◌, ℕ, ◌<◌, List, [], ◌∷◌, ◌++◌, length, get_or, drop, map, ap, sym, refl, ◌∙◌, subst, inl, inr, string_bytes}
-use Rattle.std.specs.Prelude.{String, Option, None, Some, IfNone}
+use Rattle.std.specs.Prelude.{String, Option, None, Some, IfNone, MatchOption}
 use Rattle.std.specs.Global.{Global}
 use Rattle.std.specs.List.{Any}
 use Rattle.std.specs.Net.Grammar.{IsIpText, IsIpv6Text}
@@ -11,8 +11,8 @@ use Rattle.std.proofs.lemmas.List.{append_cancel_right, length-map, get_or-map}
 use Rattle.clap.specs.Words.{Text}
 use Rattle.crawl_input.specs.declared.resolved.Resolved.{Resolved}
 use Rattle.socket.specs.Hosts.{in_brackets}
-use Rattle.command_line.specs.Resolving.{AreResolved, IsAddressText, IsNoResolve, Resolves, cut_at, host_said, is_colon, ports, resolve_said}
-use Rattle.command_line.specs.LoadWords.{number_in}
+use Rattle.command_line.specs.Resolving.{AreResolved, IsAddressText, IsNoResolve, Resolves, cut_at, host_said, is_colon, resolve_said}
+use Rattle.command_line.specs.Numbers.{whole_in}
 
 -- one value more
 pub resolved_more : (texts : List Text) (hosts : List Resolved) (text : Text) (host : Resolved) → AreResolved texts hosts → Resolves text host → AreResolved (texts ++ text ∷ []) (hosts ++ host ∷ [])
@@ -28,7 +28,7 @@ other_among values k value below at other =
     (k, string_bytes value, subst (λ n. k < n) (sym (length-map values string_bytes)) below, get_or-map string_bytes values k value (string_bytes value) below ∙ ap string_bytes (sym at), other)
 
 -- a value with these parts
-pub parts_said : (text host rest port address : Text) (number : ℕ) → host_said text ≡ Some (host, rest) → cut_at is_colon rest ≡ Some (port, address) → number_in ports port ≡ Some number
+pub parts_said : (text host rest port address : Text) (number : ℕ) → host_said text ≡ Some (host, rest) → cut_at is_colon rest ≡ Some (port, address) → whole_in 1 65535 port ≡ Some number
     → Some (record { host = host; port = number; address = address }) ≡ resolve_said text
 parts_said text host rest port address number named cut read = rw (named, cut, read) refl
 
@@ -48,3 +48,8 @@ no_inside text inside is other none (Ip.V6 ip) (inr written) =
 pub if_none : {A : Type 0} (o : Option A) (P : Type 0) → P → IfNone o P
 if_none None P p = p
 if_none (Some a) P p = tt
+
+-- a value that gives nothing
+pub if-unread : {A : Type 0} (o : Option A) (None-holds : Type 0) (Some-holds : A → Type 0) → MatchOption o None-holds Some-holds → ((a : A) → o ≡ Some a → ⊥) → None-holds
+if-unread None N S found not = found
+if-unread (Some a) N S found not = absurd (not a refl)

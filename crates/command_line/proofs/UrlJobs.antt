@@ -1,11 +1,10 @@
 -- What jobs of URLs are made so far.
-use Rattle.std.proofs.Common.{◌≡◌, ℕ, ◌+◌, ◌<◌, ◌≤◌, max, Option, Some, None, List, [], ◌∷◌, ◌++◌, length, get_or, map, refl, ap, sym, ◌∙◌, subst, arith, inl, inr, string_bytes}
+use Rattle.std.proofs.Common.{◌≡◌, ℕ, ◌+◌, ◌<◌, ◌≤◌, max, Option, Some, None, List, [], ◌∷◌, ◌++◌, length, get_or, map, refl, ap, sym, ◌∙◌, subst, arith, inr, string_bytes}
 use Rattle.std.specs.Prelude.{String, is_some, unwrap_or, if◌then◌else◌}
 use Rattle.std.specs.Global.{Global}
 use Rattle.std.proofs.lemmas.List.{length-append, length-map, get_or-map}
 use Rattle.std.proofs.lemmas.List.Quantifiers.{position-Some}
 use Rattle.clap.specs.Words.{Text}
-use Rattle.clap.specs.declared.error.Error.{Error}
 use Rattle.conn_key.specs.Site.{is_same_site, site_of}
 use Rattle.conn_key.specs.Sites.{index_of, index_or_next, with_site}
 use Rattle.conn_key.specs.Target.{GivesTarget}
@@ -13,10 +12,12 @@ use Rattle.conn_key.specs.declared.site.Site.{Site}
 use Rattle.conn_key.specs.declared.target.Target.{Target}
 use Rattle.exchange.specs.declared.job.Job.{Job}
 use Rattle.crawl_input.specs.Urls.{IsBadUrl, IsPrintable}
-use Rattle.command_line.specs.LoadWords.{IsWhyNot}
-use Rattle.command_line.specs.LoadRequests.{AreBadUrls, ArePlannedUrls, AreUrlJobs, IsUrlJob, url_job}
+use Rattle.command_line.specs.Refusals.{IsWhy}
+use Rattle.command_line.specs.LoadUrls.{AreBadUrls, ArePlannedUrls, AreUrlJobs, IsUrlJob, url_job}
 use Rattle.command_line.specs.Numbering.{AreNumbered}
-use Rattle.command_line.specs.declared.load.plan.MeasuredFlags.{MeasuredFlags}
+use Rattle.command_line.specs.declared.load_plan.MeasuredFlags.{MeasuredFlags}
+use Rattle.command_line.specs.declared.refusal.Refusal.{Refusal}
+use Rattle.command_line.specs.declared.refusal.Refusal.TheVariants.{Memory, Wrong}
 
 -- the sites after these, with those of the jobs
 abbrev pub sites_with : List Site → List Job → List Site
@@ -70,11 +71,11 @@ url-jobs-more flags urls jobs old new url site target job so_far room gives at i
     }
 
 -- a bad URL among others is why they are refused
-pub bad-among : (urls : List (String Global)) (k : ℕ) (url : String Global) (error : Error) → k < length urls → url ≡ get_or urls k url
-    → IsWhyNot (IsBadUrl (string_bytes url)) error → IsWhyNot (AreBadUrls (map string_bytes urls)) error
-bad-among urls k url error below at (inl lacks) = inl lacks
-bad-among urls k url error below at (inr (is, bad)) =
-    inr (is, inr (k, string_bytes url, subst (λ n. k < n) (sym (length-map urls string_bytes)) below, get_or-map string_bytes urls k url (string_bytes url) below ∙ ap string_bytes (sym at), bad))
+pub bad-among : (urls : List (String Global)) (k : ℕ) (url : String Global) (refusal : Refusal) → k < length urls → url ≡ get_or urls k url
+    → IsWhy (IsBadUrl (string_bytes url)) refusal → IsWhy (AreBadUrls (map string_bytes urls)) refusal
+bad-among urls k url Memory below at why = tt
+bad-among urls k url (Wrong text) below at bad =
+    inr (k, string_bytes url, subst (λ n. k < n) (sym (length-map urls string_bytes)) below, get_or-map string_bytes urls k url (string_bytes url) below ∙ ap string_bytes (sym at), bad)
 
 -- the sites of URLs are numbered
 next_site : (sites : List Site) (site : Site) → (index_or_next sites site ≤ length sites) × (max (length sites) (index_or_next sites site + 1) ≡ length (with_site sites site))

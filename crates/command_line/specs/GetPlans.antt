@@ -1,73 +1,76 @@
--- Plans of crawls from the words after `get`.
-use Rattle.std.specs.Prelude.{◌≡◌, ℕ, Bool, false, List, string_bytes, Option, None, Some, if◌then◌else◌, Result, Ok, Err}
+-- The plan of the words after `get`, and the words that are refused.
+use Rattle.std.specs.Prelude.{◌≡◌, ◌⊎◌, Bool, true, false, List, [], string_bytes, Option, None, codes, unwrap_or, if◌then◌else◌}
 use Rattle.std.specs.List.{All, Any}
 use Rattle.std.specs.Option.{option_map}
-use Rattle.clap.specs.Words.{Text}
+use Rattle.clap.specs.Words.{Row, Text}
+use Rattle.clap.specs.Walk.{first_of}
 use Rattle.persistence.specs.declared.method.Method.{Method}
 use Rattle.persistence.specs.declared.method.Method.TheVariants.{Get, Head}
+use Rattle.conn_key.specs.Target.{GivesTarget}
+use Rattle.conn_key.specs.declared.target.Target.{Target}
 use Rattle.crawl_input.specs.Given.{url_texts}
-use Rattle.crawl_input.specs.Urls.{IsBadUrl}
+use Rattle.crawl_input.specs.Urls.{IsBadUrl, IsPrintable}
+use Rattle.crawl_input.specs.declared.options.CrawlFlags.{CrawlFlags}
 use Rattle.crawl_input.specs.declared.options.CrawlOptions.{CrawlOptions}
-use Rattle.command_line.specs.GetWords.{GetSaid, IsGoodUrl, IsRefused, NamesNone, max_age_said, timeout_said}
-use Rattle.command_line.specs.CrawlWords.{flags_said, max_life_said, parallel_range}
 use Rattle.command_line.specs.Inputs.{asked_file}
-use Rattle.command_line.specs.LoadRanges.{limit_range}
-use Rattle.command_line.specs.LoadWords.{number_said}
+use Rattle.command_line.specs.OptionTable.{get_options}
+use Rattle.command_line.specs.Options.{flag_said, has_bad, number_said, texts_said}
 use Rattle.command_line.specs.Resolving.{AreResolved, IsNoResolve}
-use Rattle.command_line.specs.declared.get.plan.CrawlPlan.{CrawlPlan}
-use Rattle.command_line.specs.declared.get.plan.GetRefusal.{GetRefusal}
-use Rattle.command_line.specs.declared.get.plan.GetRefusal.TheVariants.{Memory, Wrong}
+use Rattle.command_line.specs.declared.get_plan.CrawlPlan.{CrawlPlan}
+use Rattle.command_line.specs.declared.options.Takes.TheVariants.{Number, Seconds}
 
 abbrev pub method_said : Bool → Method
 method_said head = if head then Head else Get
 
--- the options have the numbers and flags of the words
-pub record AreOptionsOf (said : GetSaid) (options : CrawlOptions) : Type 0 where
-  pub method : options.method ≡ method_said said.head
-  pub age_said : max_age_said said.max_age ≡ Some options.max_age
-  pub seconds_said : timeout_said said.timeout ≡ Some options.timeout
-  pub parallel_said : number_said parallel_range 1 said.crawl.parallel ≡ Some options.parallel
-  pub host_limit_said : number_said limit_range 0 said.crawl.host_limit ≡ Some options.host_limit
-  pub total_said : number_said limit_range 0 said.crawl.total ≡ Some options.total
-  pub life_said : max_life_said said.crawl.max_life ≡ Some options.max_life
-  pub flags : options.flags ≡ flags_said said.crawl
+abbrev pub flags_said : List Row → CrawlFlags
+flags_said rows = record {
+  fresh = flag_said (codes "fresh") rows;
+  skip_bad = flag_said (codes "skip-bad") rows;
+  fail = flag_said (codes "fail") rows;
+  json = flag_said (codes "json") rows;
+}
 
--- the plan has the options, URLs, file and addresses of the words; there is a URL or a file, and each URL is good if bad
--- ones are not skipped
-pub record IsPlanOf (said : GetSaid) (plan : CrawlPlan) : Type 0 where
-  pub options : AreOptionsOf said plan.options
-  pub urls_said : url_texts plan.urls.items ≡ said.urls
-  pub file_said : option_map string_bytes plan.file ≡ said.crawl.file
-  pub resolved_said : AreResolved said.crawl.resolve plan.resolved.items
-  pub some : NamesNone said → ⊥
-  pub good : said.crawl.skip_bad ≡ false → All IsGoodUrl said.urls
+-- the options are those of the words. Without them one transfer is in flight at once, nothing is limited, connections are
+-- reused that were idle for at most 118 seconds, whatever their age, and a transfer may take 30 seconds
+pub record AreOptionsOf (rows : List Row) (options : CrawlOptions) : Type 0 where
+  pub method_is : options.method ≡ method_said (flag_said (codes "head") rows)
+  pub parallel_is : options.parallel ≡ unwrap_or (number_said (codes "parallel") Number 1 256 rows) 1
+  pub host_limit_is : options.host_limit ≡ unwrap_or (number_said (codes "host-limit") Number 0 65535 rows) 0
+  pub total_is : options.total ≡ unwrap_or (number_said (codes "total") Number 0 65535 rows) 0
+  pub max_age_is : options.max_age ≡ unwrap_or (number_said (codes "max-age") Seconds 0 18446744073709551615 rows) 118
+  pub max_life_is : options.max_life ≡ unwrap_or (number_said (codes "max-life") Seconds 0 18446744073709551615 rows) 0
+  pub timeout_is : options.timeout ≡ unwrap_or (number_said (codes "timeout") Seconds 1 3600 rows) 30
+  pub flags_are : options.flags ≡ flags_said rows
+
+-- a URL that can be fetched: it is printable, and leads to a target
+abbrev pub IsGoodUrl : Text → Type 0
+IsGoodUrl url = IsPrintable url × ((target : Target) × GivesTarget url target)
+
+-- there is neither a URL nor a file of them
+abbrev pub NamesNone : List Row → Type 0
+NamesNone rows = (texts_said (codes "URL") rows ≡ []) × (first_of (codes "file") rows ≡ None)
+
+-- the plan has the options, URLs, file and addresses of the words; each number is in its range, there is a URL or a file,
+-- and each URL is good if bad ones are not skipped
+pub record IsPlanOf (rows : List Row) (plan : CrawlPlan) : Type 0 where
+  pub numbers_good : has_bad get_options rows ≡ false
+  pub options_are : AreOptionsOf rows plan.options
+  pub urls_are : url_texts plan.urls.items ≡ texts_said (codes "URL") rows
+  pub file_is : option_map string_bytes plan.file ≡ first_of (codes "file") rows
+  pub resolved_are : AreResolved (texts_said (codes "resolve") rows) plan.resolved.items
+  pub some : NamesNone rows → ⊥
+  pub good : flag_said (codes "skip-bad") rows ≡ false → All IsGoodUrl (texts_said (codes "URL") rows)
 
 -- the name of the file that a plan reads URLs from; none if there is no file, or if it is standard input
 abbrev pub plan_file : CrawlPlan → Option Text
 plan_file plan = asked_file (option_map string_bytes plan.file)
 
--- there is no plan since the words are refused, or memory ran out
-abbrev pub IsGetRefused : GetSaid → GetRefusal → Type 0
-IsGetRefused said Memory = Unit {0}
-IsGetRefused said (Wrong text) = IsRefused said
+-- a URL is bad, and bad ones are not skipped
+abbrev pub HasBadUrl : List Row → Type 0
+HasBadUrl rows = (flag_said (codes "skip-bad") rows ≡ false) × Any IsBadUrl (texts_said (codes "URL") rows)
 
--- returns the number on the command line; refuses a missing or malformed one, unless memory ran out
-abbrev pub SaysNumber : Option ℕ → Result ℕ GetRefusal → Type 0
-SaysNumber said (Ok number) = said ≡ Some number
-SaysNumber said (Err Memory) = Unit {0}
-SaysNumber said (Err (Wrong text)) = said ≡ None
-
--- a URL is refused: it is bad, or memory ran out
-abbrev pub IsUrlRefused : Text → GetRefusal → Type 0
-IsUrlRefused url Memory = Unit {0}
-IsUrlRefused url (Wrong text) = IsBadUrl url
-
--- one of several URLs is refused: it is bad, or memory ran out
-abbrev pub AreUrlsRefused : List Text → GetRefusal → Type 0
-AreUrlsRefused urls Memory = Unit {0}
-AreUrlsRefused urls (Wrong text) = Any IsBadUrl urls
-
--- the values of `--resolve` are refused: one gives no address, or memory ran out
-abbrev pub AreHostsRefused : List Text → GetRefusal → Type 0
-AreHostsRefused given Memory = Unit {0}
-AreHostsRefused given (Wrong text) = Any IsNoResolve given
+-- a number is out of its range, there is neither a URL nor a file, a URL is bad that is not skipped, or a value of
+-- `--resolve` gives no address
+abbrev pub IsGetRefused : List Row → Type 0
+IsGetRefused rows =
+    ((has_bad get_options rows ≡ true) ⊎ NamesNone rows) ⊎ (HasBadUrl rows ⊎ Any IsNoResolve (texts_said (codes "resolve") rows))

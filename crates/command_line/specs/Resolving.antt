@@ -1,6 +1,6 @@
 -- The addresses that values of `--resolve` give for hosts: HOST:PORT:ADDRESS.
 use Rattle.std.specs.Prelude.{◌≡◌, ◌⊎◌, ◌==◌, ℕ, Bool, nat_lt, codes, List, [], ◌∷◌, ◌++◌, length, string_bytes, Option, None, Some, if◌then◌else◌}
-use Rattle.std.specs.List.{Any, after_first, before_first, position_or_len, slice_index}
+use Rattle.std.specs.List.{after_first, before_first, position_or_len, slice_index}
 use Rattle.std.specs.Option.{option_and_then, option_map}
 use Rattle.std.specs.Net.Grammar.{IsIpText}
 use Rattle.std.specs.Net.Socket.{socket_ip, IsPlainSocket}
@@ -8,20 +8,14 @@ use Rattle.std.specs.declared.net.ip_addr.IpAddr.{IpAddr}
 use Rattle.clap.specs.Words.{Text}
 use Rattle.socket.specs.Hosts.{IsLiteral}
 use Rattle.crawl_input.specs.declared.resolved.Resolved.{Resolved}
-use Rattle.command_line.specs.LoadWords.{number_in}
-use Rattle.command_line.specs.declared.resolving.ResolveFault.{ResolveFault}
-use Rattle.command_line.specs.declared.resolving.ResolveFault.TheVariants.{Memory, OtherForm}
-use Rattle.command_line.specs.declared.resolving.ResolveText.{ResolveText}
-use Rattle.command_line.specs.declared.load.range.NumberRange.{NumberRange}
+use Rattle.command_line.specs.Numbers.{whole_in}
+use Rattle.command_line.specs.declared.resolve.ResolveText.{ResolveText}
 
 abbrev pub is_colon : ℕ → Bool
 is_colon byte = byte == 58
 
 abbrev pub is_close : ℕ → Bool
 is_close byte = byte == 93
-
-abbrev pub ports : NumberRange
-ports = record { least = 1; greatest = 65535 }
 
 -- what stands before the first such byte, and what stands after it
 abbrev pub cut_at : (ℕ → Bool) → Text → Option (Text × Text)
@@ -55,7 +49,7 @@ pub record ResolveSaid : Type 0 where
 
 abbrev pub with_port : Text → Text × Text → Option ResolveSaid
 with_port host (port, address) =
-    option_map (λ number. record { host = host; port = number; address = address }) (number_in ports port)
+    option_map (λ number. record { host = host; port = number; address = address }) (whole_in 1 65535 port)
 
 abbrev pub with_host : Text × Text → Option ResolveSaid
 with_host (host, rest) = option_and_then (with_port host) (cut_at is_colon rest)
@@ -84,11 +78,6 @@ abbrev pub AreResolved : List Text → List Resolved → Type 0
 AreResolved [] [] = Unit {0}
 AreResolved (text ∷ texts) (given ∷ rest) = Resolves text given × AreResolved texts rest
 AreResolved _ _ = ⊥
-
--- one of the values gives none, if memory did not run out
-abbrev pub IsWhyNotResolved : List Text → ResolveFault → Type 0
-IsWhyNotResolved texts Memory = Unit {0}
-IsWhyNotResolved texts (OtherForm text) = Any IsNoResolve texts
 
 -- what the parts of a value say
 abbrev pub said_by : ResolveText → ResolveSaid

@@ -4,7 +4,7 @@
 pub const EXAMPLES: &str = "\
 Examples:
   curlpool get http://localhost:8000/a http://localhost:8000/b
-  curlpool load --url http://localhost:8000/ --connections 16 --seconds 5
+  curlpool load http://localhost:8000/ -c 16 -d 5s
   curlpool script examples/claim-first.script
   curlpool audit --all pool.trace
 
@@ -143,7 +143,8 @@ A URL begins with http:// and has no control characters. Requests to the same
 host and port reuse its connection. The system looks a host name up once, unless
 it is localhost, an address, or given by --resolve. Bodies are counted, and not
 printed. Each URL has a line, written when its transfer ends: in the order of
-the URLs or, with --parallel above 1, in the order in which transfers end.
+the URLs or, with --parallel above 1, in the order in which transfers end. A
+number of seconds may have a unit: 10s, 5m (minutes) or 1h (hours).
 
 STATUS LENGTH reused|new [retried] URL
                     The response's status code, and the length of its body in
@@ -199,20 +200,22 @@ curlpool get http://localhost:8000/a http://localhost:8000/b
 200 103 new http://localhost:8000/a
 200 602 reused http://localhost:8000/b
 
-curlpool get --head --timeout 5 http://127.0.0.1:8000/
+curlpool get --head --timeout 5s http://127.0.0.1:8000/
 curlpool get --max-age 0 http://[::1]:8000/a http://[::1]:8000/b
-curlpool get --file urls.txt --parallel 64 --skip-bad --json";
+curlpool get --file urls.txt -P 64 --skip-bad --json";
 
 /// The report of `load`, and its statuses.
 pub const REPORT: &str = "\
-Without --url, a server in this process listens on 127.0.0.1, on one port per
+Without a URL, a server in this process listens on 127.0.0.1, on one port per
 site, and answers each request with the body ok. Threads that share one cache of
 connections take the jobs 0, 1, 2 ..; job K requests /K from site K modulo the
 number of sites. With --trace, the calls to the cache and their effects go to a
-file for curlpool audit. Numbers are unsigned decimal integers.
+file for curlpool audit. Numbers are unsigned decimal integers; a number of
+seconds may have a unit: 10s, 5m (minutes) or 1h (hours).
 
-With --url, job K requests URL K modulo the number of URLs. The system looks a
-host name up, unless it is localhost, an address, or given by --resolve.
+With URLs, by --url or as arguments, job K requests URL K modulo their number.
+The system looks a host name up, unless it is localhost, an address, or given by
+--resolve.
 
 With any option after --trace above, a summary is printed on standard error:
 requests, bytes of bodies, latency, connections (and the time that requests
@@ -264,7 +267,7 @@ curlpool load --sites 4 --jobs 10000 --workers 64 --host-limit 2 --total 6
 curlpool load --total 1 --trace load.trace
 curlpool audit load.trace
 
-curlpool load --url http://127.0.0.1:8080/ --connections 64 --seconds 10";
+curlpool load http://127.0.0.1:8080/ -c 64 -t 4 -d 10s -R 1000";
 
 /// The language of traces, and the answers of `audit`.
 pub const AUDITS: &str = "\

@@ -1,39 +1,44 @@
-//! The command line of curlpool: its subcommands and options, the plans that words give, and the
+//! The command line of curlpool: its commands and their options, the plans that words give, and the
 //! refusals of other words.
 #![tactic(auto)]
 
-mod auditing;
+mod audit_words;
 mod build;
-mod commands;
-mod flags;
-mod get;
+mod get_plan;
+mod get_urls;
 mod help;
-mod load;
+mod input;
+mod load_limits;
+mod load_numbers;
+mod load_plan;
+mod load_planning;
+mod load_urls;
 mod memory;
-mod mistake;
+mod numbers;
+mod options;
+mod refusal;
 mod request;
-mod resolving;
-mod script;
+mod resolve;
+mod script_words;
 mod system_words;
+mod url_target;
 mod values;
+mod words;
 mod worked;
 
-pub use auditing::words::AuditWords;
+pub use audit_words::AuditWords;
 pub use build::{BUILD, VERSION};
-pub use commands::{Subcommand, Words};
-pub use get::plan::{CrawlPlan, GetRefusal};
-pub use get::words::{CrawlWords, GetWords};
-pub use load::measured::words::MeasuredWords;
-pub use load::numbers::load_options;
-pub use load::options::LoadOptions;
-pub use load::plan::{LoadPlan, MeasuredFlags, MeasuredNumbers};
-pub use load::range::NumberRange;
-pub use load::targets::job_of;
-pub use load::words::LoadWords;
+pub use get_plan::CrawlPlan;
+pub use input::ScriptInput;
+pub use load_limits::LoadOptions;
+pub use load_numbers::load_options;
+pub use load_plan::{LoadPlan, MeasuredFlags, MeasuredNumbers};
+pub use load_urls::job_of;
 pub use memory::{ArgsAlloc, CountedArgsAlloc};
-pub use request::{ErrorClass, Request, asked_by};
-pub use resolving::system_addresses;
-pub use script::input::ScriptInput;
-pub use script::words::ScriptWords;
+pub use refusal::Refusal;
+pub use request::{ErrorClass, Request};
+pub use resolve::system_addresses;
+pub use script_words::ScriptWords;
 pub use system_words::given_words;
+pub use words::Words;
 pub use worked::{worked_audit_lines, worked_command_lines, worked_percentages};

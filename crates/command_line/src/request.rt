@@ -1,44 +1,46 @@
-//! What the words on the command line ask for.
+//! What the words ask for.
 
-ghost use Rattle.std.specs.Prelude.{◌≡◌};
-ghost use Rattle.clap.specs.Words.{kind_of};
-ghost use Rattle.command_line.specs.CommandLine.{AnswersError, AnswersGet, AnswersLoad};
-ghost use Rattle.command_line.specs.CommandLine.{Asks, class_of};
-ghost use Rattle.command_line.specs.CommandLine.{said, word_faults};
-ghost use Rattle.command_line.specs.GetWords.{get_said_by};
-ghost use Rattle.command_line.specs.LoadWords.{load_said_by};
+ghost use Rattle.std.specs.Prelude.{◌≡◌, IfErr, IfOk, map};
+ghost use Rattle.clap.specs.Words.{fault_of, found_of, kind_of, rows_of, subcommand_of};
+ghost use Rattle.clap.specs.Words.{subcommand_rows_of};
+ghost use Rattle.command_line.specs.CommandLine.{AnswersError, AnswersSaid, IsRefusal};
+ghost use Rattle.command_line.specs.CommandLine.{IsSaidRefused, MayAsk, Plans, class_of, curlpool};
+ghost use Rattle.command_line.specs.CommandLine.{said, said_as, said_in, word_faults};
+ghost use Rattle.command_line.specs.Refusals.{IsWhy};
 
-use crate::auditing::words::AuditWords;
-use crate::commands::{Subcommand, Words};
-use crate::get::plan::{CrawlPlan, GetRefusal};
-use crate::get::words::GetWords;
-use crate::load::plan::LoadPlan;
-use crate::load::words::LoadWords;
-use crate::memory::ArgsAlloc;
-use crate::script::words::ScriptWords;
-use clap::Error;
+use crate::audit_words::{AuditWords, audit_words};
+use crate::get_plan::{CrawlPlan, get_plan};
+use crate::input::ScriptInput;
+use crate::load_plan::LoadPlan;
+use crate::load_planning::load_plan;
+use crate::options::{get_options, load_options};
+use crate::refusal::{Refusal, error_text, usage_error};
+use crate::script_words::{ScriptWords, script_words};
+use crate::words::{Words, not_text, parse, read_words};
 use clap::error::ErrorKind;
+use clap::{ArgMatches, Error};
+use std::alloc::Global;
 
 /// What the words ask for.
 #[derive(Drop)]
 pub enum Request {
-    /// To run the script that is read from there.
+    /// To run a script.
     Script(ScriptWords),
-    /// To fetch URLs so.
+    /// To fetch URLs.
     Get(CrawlPlan),
-    /// To carry out a load so.
+    /// To run a load.
     Load(LoadPlan),
-    /// To judge the trace that is read from there.
+    /// To check a trace.
     Audit(AuditWords),
-    /// To tell this on standard output: help, or the version.
+    /// To print this on standard output: help, or the version.
     Tell(String),
-    /// Nothing that the program does: this says why.
+    /// Nothing that the program does. The text says why.
     Refuse(String),
     /// Nothing, since memory ran out.
     NoMemory,
 }
 
-/// What an error of the words is.
+/// Class of an error in the words.
 #[derive(Clone, Copy)]
 pub enum ErrorClass {
     /// Memory ran out.
@@ -49,69 +51,101 @@ pub enum ErrorClass {
     Mistake,
 }
 
-/// What the words ask for. `NoMemory` comes only where the words could not be had for want of
-/// memory, or the memory counted a want.
-pub fn asked_by<M: ArgsAlloc>(memory: &mut M, words: Words) -> Request
-    ensures { Asks (word_faults words) (said words) (M.wants memory.old)
-        (M.wants memory.new) result }
+/// Returns what the words ask for.
+pub(crate) fn request_of(alloc: Global, words: Words) -> Request
+    ensures { MayAsk (word_faults words) (said words) result }
 {
     match words {
-        Words::Given(words) => match memory.parse(words.as_slice()) {
-            Ok(Subcommand::Script(words)) => Request::Script(words),
-            Ok(Subcommand::Get(words)) => planned(memory, words),
-            Ok(Subcommand::Load(words)) => numbered(memory, words),
-            Ok(Subcommand::Audit(words)) => Request::Audit(words),
-            Err(error) => refused(memory, error),
+        Words::Given(words) => match read_words(alloc, words.as_slice()) {
+            Ok(read) => parsed(alloc, read.as_slice()),
+            Err(_) => Request::NoMemory,
         },
-        Words::NotText => match memory.not_text() {
-            Ok(error) => refused(memory, error),
+        Words::NotText => match not_text(alloc) {
+            Ok(error) => answer_to(alloc, &error),
             Err(_) => Request::NoMemory,
         },
         Words::NoMemory => Request::NoMemory,
     }
 }
 
-/// What the words after `get` ask for.
-fn planned<M: ArgsAlloc>(memory: &mut M, words: GetWords) -> Request
-    ensures { AnswersGet (get_said_by words) (M.wants memory.old) (M.wants memory.new) result }
+// Returns what words that were read ask for.
+fn parsed(alloc: Global, words: &[&str]) -> Request
+    ensures { MayAsk (fault_of curlpool (map (λ word. word.now) words.now))
+        (said_in (subcommand_of curlpool (map (λ word. word.now) words.now))) result }
 {
-    match memory.plan(words) {
-        Ok(plan) => Request::Get(plan),
-        Err(GetRefusal::Wrong(text)) => Request::Refuse(text),
-        Err(GetRefusal::Memory) => Request::NoMemory,
+    match parse(alloc, words) {
+        Ok(matches) => request_in(alloc, &matches),
+        Err(error) => answer_to(alloc, &error),
     }
 }
 
-/// What the words after `load` ask for.
-fn numbered<M: ArgsAlloc>(memory: &mut M, words: LoadWords) -> Request
-    ensures { AnswersLoad (load_said_by words) (M.wants memory.old) (M.wants memory.new)
-        result }
+// Returns what the words after a command ask for.
+fn request_in(alloc: Global, matches: &ArgMatches<'_>) -> Request
+    ensures { AnswersSaid (said_in (subcommand_rows_of matches.now)) result }
 {
-    match memory.load_plan(words) {
-        Ok(plan) => Request::Load(plan),
-        Err(error) => refused(memory, error),
+    match matches.subcommand() {
+        Some((name, given)) => match planned(alloc, name, given) {
+            Ok(request) => request,
+            Err(Refusal::Memory) => Request::NoMemory,
+            Err(Refusal::Wrong(text)) => refused(alloc, name, text.as_str()),
+        },
+        None => Request::Script(ScriptWords {
+            is_traced: false,
+            picture: None,
+            input: ScriptInput::Standard,
+        }),
     }
 }
 
-/// What is asked for where reading the words gave that error.
-fn refused<M: ArgsAlloc>(memory: &mut M, error: Error) -> Request
-    ensures { AnswersError (class_of (kind_of error)) (M.wants memory.old)
-        (M.wants memory.new) result }
+// Makes the plan of the words after the command of that name.
+fn planned(alloc: Global, name: &str, given: &ArgMatches<'_>) -> Result<Request, Refusal>
+    ensures planned { IfOk result (Plans (said_as name.now (rows_of (found_of given.now)))) }
+    ensures refused { IfErr result (IsWhy
+        (IsSaidRefused (said_as name.now (rows_of (found_of given.now))))) }
 {
-    match class_of(error.kind()) {
+    if name == "get" {
+        return Ok(Request::Get(get_plan(alloc, given)?));
+    }
+    if name == "load" {
+        return Ok(Request::Load(load_plan(alloc, given)?));
+    }
+    if name == "audit" {
+        return Ok(Request::Audit(audit_words(alloc, given)?));
+    }
+    Ok(Request::Script(script_words(alloc, given)?))
+}
+
+// Returns the refusal of the words after the command of that name, with its usage.
+fn refused(alloc: Global, name: &str, text: &str) -> Request
+    ensures { IsRefusal result }
+{
+    let error = if name == "load" {
+        usage_error(alloc, "curlpool load", load_options(), text)
+    } else {
+        usage_error(alloc, "curlpool get", get_options(), text)
+    };
+    match error {
+        Ok(error) => answer_to(alloc, &error),
+        Err(_) => Request::NoMemory,
+    }
+}
+
+// Returns the answer to an error of `clap`.
+fn answer_to(alloc: Global, error: &Error) -> Request
+    ensures { AnswersError (class_of (kind_of error.now)) result }
+{
+    let class = class_of(error.kind());
+    let Ok(text) = error_text(alloc, error) else {
+        return Request::NoMemory;
+    };
+    match class {
         ErrorClass::Memory => Request::NoMemory,
-        ErrorClass::Asked => match memory.text(&error) {
-            Ok(text) => Request::Tell(text),
-            Err(_) => Request::NoMemory,
-        },
-        ErrorClass::Mistake => match memory.text(&error) {
-            Ok(text) => Request::Refuse(text),
-            Err(_) => Request::NoMemory,
-        },
+        ErrorClass::Asked => Request::Tell(text),
+        ErrorClass::Mistake => Request::Refuse(text),
     }
 }
 
-/// What an error of that kind is.
+// Returns the class of an error of that kind.
 fn class_of(kind: ErrorKind) -> ErrorClass
     ensures { result ≡ class_of kind }
 {

@@ -1,6 +1,6 @@
 //! The words with which the system starts the program.
 
-use crate::commands::Words;
+use crate::words::Words;
 use std::env;
 use std::io::ErrorKind;
 

@@ -1,16 +1,18 @@
 //! Command lines of which it is known what they ask for, against which the definition of the
 //! program's command line was tried.
 
-ghost use Rattle.command_line.specs.CommandLine.{TakesScript, WantsSubcommand, TellsHelpOnHelp};
-ghost use Rattle.command_line.specs.CommandLine.{TellsHelpOnWord, TellsVersionOnVersion};
-ghost use Rattle.command_line.specs.CommandLine.{RefusesAnotherWord};
-ghost use Rattle.command_line.specs.CommandLine.{TakesFile, TakesStandardInput, TakesDash};
-ghost use Rattle.command_line.specs.CommandLine.{TakesUrls, TakesCrawl, RefusesTwice};
-ghost use Rattle.command_line.specs.CommandLine.{TakesNumbers, WantsNumber, RefusesNumberTwice};
-ghost use Rattle.command_line.specs.CommandLine.{TakesMeasured};
-ghost use Rattle.command_line.specs.CommandLine.{TakesTrace, RefusesFlagTwice};
-ghost use Rattle.command_line.specs.CommandLine.{TakesTraceFlag, TakesPicture};
-ghost use Rattle.command_line.specs.LoadRequests.{ReadsPercentages, RefusesPercentages};
+ghost use Rattle.command_line.specs.WorkedWords.{TakesScript, WantsSubcommand, TellsHelpOnHelp};
+ghost use Rattle.command_line.specs.WorkedWords.{TellsHelpOnWord, TellsVersionOnVersion};
+ghost use Rattle.command_line.specs.WorkedWords.{RefusesAnotherWord};
+ghost use Rattle.command_line.specs.WorkedWords.{TakesFile, TakesStandardInput, TakesDash};
+ghost use Rattle.command_line.specs.WorkedWords.{TakesUrls, TakesCrawl, RefusesTwice};
+ghost use Rattle.command_line.specs.WorkedWords.{TakesNumbers, WantsNumber, RefusesNumberTwice};
+ghost use Rattle.command_line.specs.WorkedWords.{TakesMeasured};
+ghost use Rattle.command_line.specs.WorkedWords.{TakesTrace, RefusesFlagTwice};
+ghost use Rattle.command_line.specs.WorkedWords.{TakesTraceFlag, TakesPicture};
+ghost use Rattle.command_line.specs.LoadPlans.{SixAndTrace};
+ghost use Rattle.command_line.specs.Numbers.{ReadsDurations, RefusesDurations};
+ghost use Rattle.command_line.specs.Numbers.{ReadsPercentages, RefusesPercentages};
 ghost use Rattle.command_line.specs.Resolving.{ReadsResolves, RefusesResolves};
 
 /// What is wrong with small command lines, by computation: with `script` alone, or a file after it,
@@ -56,6 +58,19 @@ pub fn worked_audit_lines()
 pub fn worked_percentages()
     ensures read { ReadsPercentages }
     ensures refused { RefusesPercentages }
+{}
+
+/// What durations say, by computation: `5m` is 300 seconds, `1h` 3,600. Another unit, two units, or
+/// a unit without digits are refused, and more seconds than fit in 64 bits.
+#[tactic(auto, unfolding(script_text::specs::Words::number))]
+pub fn worked_durations()
+    ensures read { ReadsDurations }
+    ensures refused { RefusesDurations }
+{}
+
+/// The options that leave a load plain, by computation: its six numbers and the trace's file.
+pub fn worked_plain_options()
+    ensures { SixAndTrace }
 {}
 
 /// What values of `--resolve` say, by computation: a host, in brackets too, a port and the text of

@@ -2,7 +2,7 @@
 //! through a pool, and puts a shared cache under load.
 #![tactic(auto)]
 
-use cli::{SystemNetwork, SystemResolver, load_on_system, look_up_threads, run_program};
+use cli::{System, SystemNetwork, SystemResolver, load_on_system, look_up_threads, run_program};
 use client::LookUps;
 use command_line::{CountedArgsAlloc, given_words};
 use script_run::{FailureCounted, SystemFiles};
@@ -46,29 +46,22 @@ fn main(rt: HostRuntime) -> ExitCode {
     let look_ups = LookUps::new(&rt, rt.alloc());
     let status = thread::scope(scope_env(), &rt, |scope| -> u8 {
         let mut memory = CountedArgsAlloc::new(rt.alloc());
-        let mut files = SystemFiles::new(&rt);
         let words = given_words(&rt);
         let resolver = SystemResolver::new(&rt);
         let count = look_up_threads(&words);
         let threads = start_threads(rt.alloc(), scope, &look_ups, resolver, count);
-        let network = SystemNetwork::new(&rt, &rt, &look_ups, !threads.is_empty());
         let stdin = rt.stdin();
         let is_typed = stdin.is_terminal();
-        let mut input = FailureCounted::with_descriptor(stdin);
-        let mut output = FailureCounted::new(rt.stdout());
-        let mut errors = rt.stderr();
-        let status = run_program(
-            rt.alloc(),
-            &mut memory,
-            words,
+        let mut system = System {
+            files: SystemFiles::new(&rt),
+            network: SystemNetwork::new(&rt, &rt, &look_ups, !threads.is_empty()),
+            input: FailureCounted::with_descriptor(stdin),
             is_typed,
-            &mut files,
-            &network,
-            |alloc, plan| load_on_system(&rt, &rt, alloc, plan),
-            &mut input,
-            &mut output,
-            &mut errors,
-        );
+            output: FailureCounted::new(rt.stdout()),
+            errors: rt.stderr(),
+        };
+        let load = |alloc, plan| load_on_system(&rt, &rt, alloc, plan);
+        let status = run_program(rt.alloc(), &mut memory, words, load, &mut system);
         look_ups.close();
         for thread in threads {
             thread.join(&rt);

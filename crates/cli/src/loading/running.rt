@@ -5,7 +5,7 @@ ghost use Rattle.cli.specs.LoadRuns.{IsLoadOutcomeOf, lacks_jobs, IsUnknownHost,
 ghost use Rattle.cli.specs.LoadRuns.{ReportsRun, RunsMany, jobs_planned, polled_world};
 ghost use Rattle.cli.specs.LoadRuns.{per_second, positive};
 ghost use Rattle.cli.specs.LoadSites.{AreSitesOf, AreAllBelow};
-ghost use Rattle.command_line.specs.declared.load.plan.LoadPlan.{LoadPlan};
+ghost use Rattle.command_line.specs.declared.load_plan.LoadPlan.{LoadPlan};
 
 use crate::loading::failure::LoadFailure;
 use crate::loading::fault::{LoadFault, OUT_OF_MEMORY};

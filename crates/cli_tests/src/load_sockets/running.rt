@@ -1,7 +1,7 @@
 //! The program, with its streams in memory.
 
 use crate::networks::FakeNetwork;
-use cli::{load_on_system, run_program};
+use cli::{System, load_on_system, run_program};
 use command_line::{CountedArgsAlloc, Words};
 use script_run::SystemFiles;
 use std::alloc::{AllocError, AllocGlobal, Global};
@@ -49,23 +49,17 @@ pub(crate) fn run_words<T: Threads + Wait + RandomSource + AllocGlobal + Sync>(
 ) -> Result<Ran, AllocError> {
     let given = words(rt.alloc(), text)?;
     let mut memory = CountedArgsAlloc::new(rt.alloc());
-    let mut files = SystemFiles::new(rt);
-    let network = FakeNetwork::new(rt.alloc(), None);
-    let mut input = b"".as_slice();
-    let mut output = Vec::new(rt.alloc());
-    let mut errors = Vec::new(rt.alloc());
-    let status = run_program(
-        rt.alloc(),
-        &mut memory,
-        given,
-        false,
-        &mut files,
-        &network,
-        |alloc, plan| load_on_system(threads, rt, alloc, plan),
-        &mut input,
-        &mut output,
-        &mut errors,
-    );
+    let mut system = System {
+        files: SystemFiles::new(rt),
+        network: FakeNetwork::new(rt.alloc(), None),
+        input: b"".as_slice(),
+        is_typed: false,
+        output: Vec::new(rt.alloc()),
+        errors: Vec::new(rt.alloc()),
+    };
+    let load = |alloc, plan| load_on_system(threads, rt, alloc, plan);
+    let status = run_program(rt.alloc(), &mut memory, given, load, &mut system);
+    let System { output, errors, .. } = system;
     Ok(Ran {
         status,
         output,

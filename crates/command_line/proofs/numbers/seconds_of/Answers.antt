@@ -1,0 +1,21 @@
+use Rattle.std.proofs.Common.{rules, ◌≡◌, ◌∙◌, false, sym}
+use Rattle.std.specs.Prelude.{◌==◌}
+use Rattle.command_line.proofs.Durations.{in-hours, in-minutes, in-seconds, without-unit}
+use Rattle.command_line.proofs.numbers.seconds_of.Goals as goal
+
+pub returns-in-104 : goal.returns-in-104
+returns-in-104 c = c.seconds_with.ensures ∙ sym (in-hours c.args.text.now c.in_ok-unit.digits.now c.in_ok-unit.field-0-0.now c.in_ok-unit.ensures.cases.0 c.in-104.is)
+
+pub returns-in-109 : goal.returns-in-109
+returns-in-109 c = c.seconds_with-in-109.ensures ∙ sym (in-minutes c.args.text.now c.in_ok-unit.digits.now c.in_ok-unit.field-0-0.now c.in_ok-unit.ensures.cases.0 c.in-109.is)
+
+pub returns-in-115 : goal.returns-in-115
+returns-in-115 c = c.number_of.ensures ∙ sym (in-seconds c.args.text.now c.in_ok-unit.digits.now c.in_ok-unit.field-0-0.now c.in_ok-unit.ensures.cases.0 c.in-115.is)
+
+pub returns-in_default : goal.returns-in_default
+returns-in_default c =
+    let byte = c.in_ok-unit.field-0-0.now in
+    let hours : (byte == 104) ≡ false = search rules in
+    let minutes : (byte == 109) ≡ false = search rules in
+    let seconds : (byte == 115) ≡ false = search rules in
+    c.number_of-in_default.ensures ∙ sym (without-unit c.args.text.now c.in_ok-unit.digits.now byte c.in_ok-unit.ensures.cases.0 hours minutes seconds)

@@ -1,4 +1,0 @@
-//! The words of `audit`.
-
-pub(crate) mod subcommand;
-pub(crate) mod words;

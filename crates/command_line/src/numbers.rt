@@ -1,0 +1,70 @@
+//! Numbers on the command line.
+
+ghost use Rattle.std.specs.Prelude.{◌≡◌, ◌^◌};
+ghost use Rattle.script_text.specs.Words.{number};
+ghost use Rattle.command_line.specs.Numbers.{decimals_in, percent_in, percent_with, seconds_in};
+ghost use Rattle.command_line.specs.Numbers.{seconds_with};
+
+/// Hundredths in 100 percent.
+const MOST_HUNDREDTHS: u64 = 10_000;
+
+/// Returns the number of one or more decimal digits, if it has 64 bits.
+pub(crate) fn number_of(text: &[u8]) -> Option<u64>
+    ensures { result ≡ number (2 ^ 64) text.now }
+{
+    script_text::number_of(text)
+}
+
+/// Returns a duration in seconds: digits, and possibly a unit, which is `s`, `m` or `h`.
+pub(crate) fn seconds_of(text: &[u8]) -> Option<u64>
+    ensures { result ≡ seconds_in text.now }
+{
+    let (&unit, digits) = text.split_last()?;
+    match unit {
+        b'h' => seconds_with(3_600, digits),
+        b'm' => seconds_with(60, digits),
+        b's' => number_of(digits),
+        _ => number_of(text),
+    }
+}
+
+// Returns the seconds of a number of units.
+fn seconds_with(unit: u64, digits: &[u8]) -> Option<u64>
+    ensures { result ≡ seconds_with unit digits.now }
+{
+    number_of(digits)?.checked_mul(unit)
+}
+
+/// Returns the hundredths of a percentage with at most two decimals, at most 10,000.
+pub(crate) fn hundredths_of(text: &str) -> Option<u64>
+    ensures { result ≡ percent_in text.now }
+{
+    match text.split_once('.') {
+        Some((whole, decimals)) => percent_with(whole.as_bytes(), decimals_of(decimals)?),
+        None => percent_with(text.as_bytes(), 0),
+    }
+}
+
+// Returns the hundredths of the decimals of a percentage.
+fn decimals_of(text: &str) -> Option<u64>
+    ensures { result ≡ decimals_in text.now }
+{
+    match text.len() {
+        1 => Some(number_of(text.as_bytes())?.saturating_mul(10)),
+        2 => number_of(text.as_bytes()),
+        _ => None,
+    }
+}
+
+// Returns the hundredths of a percentage. `decimals` are the hundredths of its decimals.
+fn percent_with(whole: &[u8], decimals: u64) -> Option<u64>
+    ensures { result ≡ percent_with whole.now decimals }
+{
+    let whole = number_of(whole)?;
+    let hundredths = whole.saturating_mul(100).saturating_add(decimals);
+    if hundredths <= MOST_HUNDREDTHS {
+        Some(hundredths)
+    } else {
+        None
+    }
+}
