@@ -6,7 +6,7 @@ use Rattle.std.proofs.lemmas.Nat.{mod_below}
 use Rattle.exchange.specs.declared.job.Job.{Job}
 use Rattle.cli.specs.LoadJobs.{AreOwnJobs, IsOwnJob, own_url}
 use Rattle.command_line.specs.Numbering.{AreNumbered}
-use Rattle.command_line.specs.declared.load_plan.MeasuredFlags.{MeasuredFlags}
+use Rattle.command_line.specs.declared.load_measured.MeasuredFlags.{MeasuredFlags}
 
 -- one more request
 pub own_jobs_more : (flags : MeasuredFlags) (ports : List ℕ) (number : ℕ) (jobs : List Job) (job : Job) → AreOwnJobs flags ports number jobs → IsOwnJob flags ports (number + length jobs) job → AreOwnJobs flags ports number (jobs ++ job ∷ [])

@@ -1,3 +1,4 @@
+pub mod Statuses
 pub mod Auditing
 pub mod Fetching
 pub mod LoadJobs

@@ -5,7 +5,7 @@ use Rattle.exchange.specs.declared.job.Job.{Job}
 use Rattle.command_line.specs.LoadUrls.{url_job}
 use Rattle.command_line.specs.declared.load_limits.LoadOptions.{LoadOptions}
 use Rattle.command_line.specs.declared.load_plan.LoadPlan.{LoadPlan}
-use Rattle.command_line.specs.declared.load_plan.MeasuredFlags.{MeasuredFlags}
+use Rattle.command_line.specs.declared.load_measured.MeasuredFlags.{MeasuredFlags}
 
 -- request K is for the path /K at site K modulo the number of sites, on the site's port of 127.0.0.1
 pub record IsOwnJob (flags : MeasuredFlags) (ports : List ℕ) (number : ℕ) (job : Job) : Type 0 where

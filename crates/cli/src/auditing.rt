@@ -5,24 +5,13 @@ ghost use Rattle.cli.specs.Auditing.{AnswersAudit, audit_status, stop_status};
 ghost use Rattle.command_line.specs.Inputs.{name_of};
 ghost use Rattle.script_run.specs.Streams.{CanCount};
 
+use crate::status::Status;
 use crate::system::System;
 use audit_run::{AuditStop, Verdict, audit_file, audit_stream};
 use command_line::{AuditWords, ScriptInput};
 use script_run::{ScriptFiles, Sink, Source};
 use std::alloc::Global;
 use std::io::Write;
-
-/// The trace is lawful.
-const LAWFUL: u8 = 0;
-
-/// The pool broke a rule.
-const BROKEN: u8 = 1;
-
-/// The trace can't be read on.
-const BAD_TRACE: u8 = 3;
-
-/// Memory ran out, or the answer was not written whole.
-const FAILED: u8 = 4;
 
 /// What standard input is called.
 const STANDARD: &str = "trace";
@@ -64,8 +53,8 @@ fn status_told<E: Write>(errors: &mut E, audited: Result<Verdict, AuditStop>) ->
     ensures { result ≡ audit_status audited }
 {
     match audited {
-        Ok(Verdict::Lawful) => LAWFUL,
-        Ok(Verdict::Broken) => BROKEN,
+        Ok(Verdict::Lawful) => Status::Done.code(),
+        Ok(Verdict::Broken) => Status::Broken.code(),
         Err(stop) => {
             let _ = writeln!(errors, "{stop}");
             stop_status(stop)
@@ -78,7 +67,7 @@ fn stop_status(stop: AuditStop) -> u8
     ensures { result ≡ stop_status stop }
 {
     match stop {
-        AuditStop::Line { .. } | AuditStop::Read => BAD_TRACE,
-        AuditStop::Memory | AuditStop::Write => FAILED,
+        AuditStop::Line { .. } | AuditStop::Read => Status::Stopped.code(),
+        AuditStop::Memory | AuditStop::Write => Status::Failed.code(),
     }
 }

@@ -10,6 +10,7 @@ pub(crate) mod system_names;
 pub(crate) mod system_network;
 
 use crate::file_fault::{FileAction, write_file_fault};
+use crate::status::Status;
 use crate::system::System;
 use client::{Crawl, CrawlFault, Crawled, Network};
 use command_line::CrawlPlan;
@@ -18,15 +19,6 @@ use script_run::{ScriptFiles, Sink, Source};
 use script_text::FaultKind;
 use std::alloc::Global;
 use std::io::{self, Write};
-
-/// Each URL has a good response and its line.
-const DONE: u8 = 0;
-
-/// A line of the file is a bad URL.
-const BAD_URL: u8 = 2;
-
-/// A URL has no good response, or no line.
-const FAILED: u8 = 4;
 
 /// Carries out a plan: fetches the URLs among the words, and then the URLs in its file, which may
 /// be standard input, and writes a line as each transfer ends. Returns the status: 0 if each URL
@@ -77,7 +69,7 @@ pub fn run_get<N: Network, F: ScriptFiles, R: Source, W: Sink, E: Write>(
         Ok(mut file) => run_crawl(crawl, Some(name), network, &mut file, output, errors),
         Err(reason) => {
             write_file_fault(alloc, errors, FileAction::Read, name, Some(reason));
-            FAILED
+            Status::Failed.code()
         }
     }
 }
@@ -129,9 +121,9 @@ fn status_of(crawled: Crawled) -> u8
     ensures { result ≡ crawl_status crawled }
 {
     match crawled.fault {
-        None if crawled.tally.failed == 0 => DONE,
-        Some(CrawlFault::BadUrl(_)) => BAD_URL,
-        _ => FAILED,
+        None if crawled.tally.failed == 0 => Status::Done.code(),
+        Some(CrawlFault::BadUrl(_)) => Status::Refused.code(),
+        _ => Status::Failed.code(),
     }
 }
 

@@ -8,6 +8,7 @@ mod get;
 mod loading;
 mod program;
 mod script;
+mod status;
 mod system;
 
 pub use get::run_get;

@@ -18,6 +18,7 @@ pub(crate) mod system;
 pub(crate) mod tracing;
 pub(crate) mod watch;
 
+use crate::status::Status;
 use command_line::LoadPlan;
 use failure::LoadFailure;
 use fault::{LoadFault, OUT_OF_MEMORY};
@@ -26,9 +27,6 @@ use script_run::Sink;
 use script_text::FaultKind;
 use std::alloc::Global;
 use std::io::Write;
-
-/// The status if there is no report, or it was not written whole.
-const FAILED: u8 = 4;
 
 /// Runs a load by `load`, and writes its report to `output` and its note, or the reason why there
 /// is no report, to `errors`. Returns the status: the load's if the report was written whole, else
@@ -63,5 +61,5 @@ fn failed<E: Write>(errors: &mut E, failure: LoadFailure) -> u8
     ensures { result ≡ 4 }
 {
     let _ = writeln!(errors, "run: {failure}");
-    FAILED
+    Status::Failed.code()
 }

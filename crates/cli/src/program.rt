@@ -13,21 +13,13 @@ use crate::loading::failure::LoadFailure;
 use crate::loading::outcome::LoadOutcome;
 use crate::loading::run_load;
 use crate::script::answer_script;
+use crate::status::Status;
 use crate::system::System;
 use client::Network;
 use command_line::{ArgsAlloc, LoadPlan, Request, ScriptInput, ScriptWords, Words};
 use script_run::{ScriptFiles, Sink, Source};
 use std::alloc::Global;
 use std::io::Write;
-
-/// Help or the version was asked for, and told.
-const DONE: u8 = 0;
-
-/// The words are refused.
-const BAD_WORDS: u8 = 2;
-
-/// Memory ran out while the words were read, or help or the version was not told whole.
-const FAILED: u8 = 4;
 
 /// How a script on a terminal ends, for the person who writes it.
 const HOW_TO_END: &str = "Write a script, and end it with Ctrl-D on an empty line.\n";
@@ -114,11 +106,11 @@ fn answer_request<
         Request::Tell(text) => tell(text.as_str(), &mut system.output, &mut system.errors),
         Request::Refuse(text) => {
             say(&mut system.errors, text.as_str());
-            BAD_WORDS
+            Status::Refused.code()
         }
         Request::NoMemory => {
             say(&mut system.errors, "run: out of memory\n");
-            FAILED
+            Status::Failed.code()
         }
     }
 }
@@ -129,10 +121,10 @@ fn tell<W: Sink, E: Write>(text: &str, output: &mut W, errors: &mut E) -> u8
     ensures { WritesText text.now (W.sink output.old) (W.sink output.new) result }
 {
     match output.put(text.as_bytes()) {
-        Ok(()) => DONE,
+        Ok(()) => Status::Done.code(),
         Err(kind) => {
             let _ = writeln!(errors, "run: {kind}");
-            FAILED
+            Status::Failed.code()
         }
     }
 }

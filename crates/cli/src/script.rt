@@ -9,6 +9,7 @@ ghost use Rattle.script_run.specs.Streams.{CanCount};
 mod picturing;
 
 use crate::file_fault::{FileAction, write_file_fault};
+use crate::status::Status;
 use crate::system::System;
 use command_line::{ScriptInput, ScriptWords};
 use picturing::Painter;
@@ -16,15 +17,6 @@ use script_run::{ScriptFiles, Sink, Source, Unseen, Viewer, run_file_for, run_sc
 use script_text::{FaultKind, ScriptFault};
 use std::alloc::Global;
 use std::io::Write;
-
-/// The script was run to its end.
-const DONE: u8 = 0;
-
-/// The script has a fault.
-const BAD_SCRIPT: u8 = 3;
-
-/// The picture was not written.
-const UNWRITTEN: u8 = 4;
 
 /// Runs the script that is read from there, tells of its fault on `errors`, and answers the status.
 /// If the words name a file for the picture, it is made before, and gets the picture after the
@@ -74,7 +66,7 @@ fn run_pictured<F: ScriptFiles, N, R: Source, W: Sink, E: Write>(
         Err(reason) => {
             let errors = &mut system.errors;
             write_file_fault(alloc, errors, FileAction::Write, name, Some(reason));
-            return UNWRITTEN;
+            return Status::Failed.code();
         }
     };
     let mut painter = Painter::new(alloc);
@@ -84,11 +76,11 @@ fn run_pictured<F: ScriptFiles, N, R: Source, W: Sink, E: Write>(
         Ok(()) => status,
         Err(FaultKind::Memory) => {
             let _ = writeln!(errors, "run: out of memory");
-            UNWRITTEN
+            Status::Failed.code()
         }
         Err(_) => {
             write_file_fault(alloc, errors, FileAction::Write, name, file.last_error());
-            UNWRITTEN
+            Status::Failed.code()
         }
     }
 }
@@ -128,10 +120,10 @@ fn status_told<E: Write>(errors: &mut E, ran: Result<(), ScriptFault>) -> u8
     ensures { result ≡ status_of ran }
 {
     match ran {
-        Ok(()) => DONE,
+        Ok(()) => Status::Done.code(),
         Err(fault) => {
             let _ = writeln!(errors, "{fault}");
-            BAD_SCRIPT
+            Status::Stopped.code()
         }
     }
 }

@@ -87,9 +87,9 @@ impl ScriptFiles for FilesInMemory {
     }
 }
 
-// A file that takes all, or nothing.
+/// A file that takes all, or nothing.
 #[derive(Drop)]
-struct FakeFile {
+pub struct FakeFile {
     is_full: bool,
 }
 

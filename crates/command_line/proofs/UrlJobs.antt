@@ -15,7 +15,7 @@ use Rattle.crawl_input.specs.Urls.{IsBadUrl, IsPrintable}
 use Rattle.command_line.specs.Refusals.{IsWhy}
 use Rattle.command_line.specs.LoadUrls.{AreBadUrls, ArePlannedUrls, AreUrlJobs, IsUrlJob, url_job}
 use Rattle.command_line.specs.Numbering.{AreNumbered}
-use Rattle.command_line.specs.declared.load_plan.MeasuredFlags.{MeasuredFlags}
+use Rattle.command_line.specs.declared.load_measured.MeasuredFlags.{MeasuredFlags}
 use Rattle.command_line.specs.declared.refusal.Refusal.{Refusal}
 use Rattle.command_line.specs.declared.refusal.Refusal.TheVariants.{Memory, Wrong}
 

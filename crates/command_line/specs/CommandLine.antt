@@ -1,5 +1,5 @@
 -- The program's command line: what its words ask for.
-use Rattle.std.specs.Prelude.{◌≡◌, ◌⊎◌, ℕ, true, List, [], ◌∷◌, ◌++◌, codes, map, string_bytes, Option, Some, None, if◌then◌else◌}
+use Rattle.std.specs.Prelude.{◌≡◌, ◌⊎◌, ℕ, Bool, true, List, [], ◌∷◌, ◌++◌, codes, map, string_bytes, Option, Some, None, if◌then◌else◌}
 use Rattle.std.specs.Str.{bytes_eq}
 use Rattle.clap.specs.Words.{App, Kinds, IsAmong, Row, Text, fault_of, new_app, subcommand_of, with_subcommand}
 use Rattle.clap.specs.Walk.{first_of}
@@ -9,7 +9,7 @@ use Rattle.conn_key.specs.Wants.{Rises}
 use Rattle.command_line.specs.GetPlans.{IsGetRefused, IsPlanOf, plan_file}
 use Rattle.command_line.specs.Inputs.{AreAuditWords, AreScriptWords, asked_file, file_of, name_of}
 use Rattle.command_line.specs.LoadPlans.{IsLoadPlanOf, IsLoadRefused}
-use Rattle.command_line.specs.OptionTable.{audit_options, get_options, load_options, script_options}
+use Rattle.command_line.specs.OptionTable.{OptionFacts, audit_options, get_options, load_options, script_options}
 use Rattle.command_line.specs.Options.{command_app}
 use Rattle.command_line.specs.declared.audit_words.AuditWords.{AuditWords}
 use Rattle.command_line.specs.declared.get_plan.CrawlPlan.{CrawlPlan}
@@ -22,14 +22,33 @@ use Rattle.command_line.specs.declared.request.Request.TheVariants as requests
 use Rattle.command_line.specs.declared.words.Words.{Words}
 use Rattle.command_line.specs.declared.words.Words.TheVariants.{Given, NotText, NoMemory}
 
--- curlpool has a version and no help subcommand, and needs one of its four subcommands, each with the options of its table
+-- curlpool has a version and no help subcommand, and needs one of its four subcommands. The one that the first word names
+-- has the options of its table
 abbrev pub needing_a_subcommand : App → App
 needing_a_subcommand app = record app { top = record app.top { has_version = true; subcommand_required = true; disable_help_subcommand = true } }
 
-abbrev pub curlpool : App
-curlpool =
+abbrev pub options_if : Bool → List OptionFacts → List OptionFacts
+options_if is_named options = if is_named then options else []
+
+abbrev pub curlpool_with : Bool → Bool → Bool → Bool → App
+curlpool_with is_script is_get is_load is_audit =
     with_subcommand (with_subcommand (with_subcommand (with_subcommand (needing_a_subcommand (new_app (codes "curlpool")))
-    (command_app (codes "script") script_options).top) (command_app (codes "get") get_options).top) (command_app (codes "load") load_options).top) (command_app (codes "audit") audit_options).top
+    (command_app (codes "script") (options_if is_script script_options)).top) (command_app (codes "get") (options_if is_get get_options)).top)
+    (command_app (codes "load") (options_if is_load load_options)).top) (command_app (codes "audit") (options_if is_audit audit_options)).top
+
+abbrev pub curlpool : Text → App
+curlpool first = curlpool_with (bytes_eq first (codes "script")) (bytes_eq first (codes "get")) (bytes_eq first (codes "load")) (bytes_eq first (codes "audit"))
+
+-- the word after the program's name, or no text
+abbrev pub first_word : List Text → Text
+first_word (program ∷ first ∷ others) = first
+first_word words = []
+
+abbrev pub faults_in : List Text → Kinds
+faults_in read = fault_of (curlpool (first_word read)) read
+
+abbrev pub rows_in : List Text → Option (Text × List Row)
+rows_in read = subcommand_of (curlpool (first_word read)) read
 
 -- the words as they are read: `help COMMAND` is `COMMAND --help`, and `help` alone is `--help`
 abbrev pub read_words : List Text → List Text
@@ -38,7 +57,7 @@ read_words words = words
 
 -- what may be wrong with the words, if they name no subcommand (a request for help counts); nothing, if they do
 abbrev pub faults_of : List Text → Kinds
-faults_of words = fault_of curlpool (read_words words)
+faults_of words = faults_in (read_words words)
 
 abbrev pub word_faults : Words → Kinds
 word_faults (Given words) = faults_of (map string_bytes words.items)
@@ -47,7 +66,7 @@ word_faults NoMemory = kinds.OutOfMemory ∷ []
 
 -- the name of the subcommand, and its rows: the values of its options
 abbrev pub rows_after : List Text → Option (Text × List Row)
-rows_after words = subcommand_of curlpool (read_words words)
+rows_after words = rows_in (read_words words)
 
 -- what words say, by the rows of a subcommand: to run a script, to fetch URLs, to carry out a load, to judge a trace; or
 -- nothing

@@ -5,8 +5,8 @@ use Rattle.clap.specs.Words.{Row}
 use Rattle.command_line.specs.OptionTable.{load_options}
 use Rattle.command_line.specs.Options.{flag_said, has_bad, is_given, is_outside, number_said}
 use Rattle.command_line.specs.declared.load_limits.LoadOptions.{LoadOptions}
-use Rattle.command_line.specs.declared.load_plan.MeasuredFlags.{MeasuredFlags}
-use Rattle.command_line.specs.declared.load_plan.MeasuredNumbers.{MeasuredNumbers}
+use Rattle.command_line.specs.declared.load_measured.MeasuredFlags.{MeasuredFlags}
+use Rattle.command_line.specs.declared.load_measured.MeasuredNumbers.{MeasuredNumbers}
 use Rattle.command_line.specs.declared.options.Takes.TheVariants.{Number, Percent, Seconds}
 
 -- a URL is given, by an option or as an operand
@@ -52,12 +52,11 @@ pub record AreNumbersOf (rows : List Row) (numbers : MeasuredNumbers) : Type 0 w
   pub timeout_is : numbers.timeout ≡ option_or (number_said (codes "timeout") Seconds 1 3600 rows) (default_timeout rows)
   pub fail_above_is : numbers.fail_above ≡ number_said (codes "fail-above") Percent 0 10000 rows
 
-abbrev pub flags_said : List Row → MeasuredFlags
-flags_said rows = record {
-  head = flag_said (codes "head") rows;
-  forbid_reuse = flag_said (codes "forbid-reuse") rows;
-  fail = flag_said (codes "fail") rows;
-  json = flag_said (codes "json") rows;
-  quiet = flag_said (codes "quiet") rows;
-  no_progress = flag_said (codes "no-progress") rows;
-}
+-- the flags
+pub record AreFlagsOf (rows : List Row) (flags : MeasuredFlags) : Type 0 where
+  pub head_is : flags.head ≡ flag_said (codes "head") rows
+  pub forbid_reuse_is : flags.forbid_reuse ≡ flag_said (codes "forbid-reuse") rows
+  pub fail_is : flags.fail ≡ flag_said (codes "fail") rows
+  pub json_is : flags.json ≡ flag_said (codes "json") rows
+  pub quiet_is : flags.quiet ≡ flag_said (codes "quiet") rows
+  pub no_progress_is : flags.no_progress ≡ flag_said (codes "no-progress") rows

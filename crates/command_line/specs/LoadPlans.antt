@@ -4,7 +4,7 @@ use Rattle.std.specs.List.{Any, filter, list_all}
 use Rattle.std.specs.Option.{option_map}
 use Rattle.clap.specs.Words.{Row, Text}
 use Rattle.clap.specs.Walk.{first_of}
-use Rattle.command_line.specs.LoadNumbers.{AreLoadOptions, AreNumbersOf, IsNumberRefused, flags_said, has_urls}
+use Rattle.command_line.specs.LoadNumbers.{AreFlagsOf, AreLoadOptions, AreNumbersOf, IsNumberRefused, has_urls}
 use Rattle.command_line.specs.LoadUrls.{AreBadUrls, ArePlannedUrls, urls_said}
 use Rattle.command_line.specs.OptionTable.{OptionFacts, load_options}
 use Rattle.command_line.specs.Options.{is_given, is_used, texts_said}
@@ -28,7 +28,7 @@ pub record IsLoadPlanOf (rows : List Row) (plan : LoadPlan) : Type 0 where
   pub options_are : AreLoadOptions rows plan.options
   pub agree : has_conflict rows ≡ false
   pub numbers_are : AreNumbersOf rows plan.numbers
-  pub flags_are : plan.flags ≡ flags_said rows
+  pub flags_are : AreFlagsOf rows plan.flags
   pub urls_are : map string_bytes plan.urls.items ≡ urls_said rows
   pub jobs_are : ArePlannedUrls plan.flags (urls_said rows) plan.jobs.items
   pub hosts_are : AreResolved (texts_said (codes "resolve") rows) plan.resolved.items

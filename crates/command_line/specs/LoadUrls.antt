@@ -11,7 +11,7 @@ use Rattle.conn_key.specs.declared.target.Target.{Target}
 use Rattle.crawl_input.specs.Urls.{IsBadUrl, IsPrintable}
 use Rattle.command_line.specs.GetPlans.{method_said}
 use Rattle.command_line.specs.Options.{texts_said}
-use Rattle.command_line.specs.declared.load_plan.MeasuredFlags.{MeasuredFlags}
+use Rattle.command_line.specs.declared.load_measured.MeasuredFlags.{MeasuredFlags}
 
 -- the URLs: the values of `--url`, and then the operands
 abbrev pub urls_said : List Row → List Text

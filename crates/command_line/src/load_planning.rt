@@ -3,24 +3,21 @@
 ghost use Rattle.std.specs.Prelude.{◌≡◌, ◌&&◌, is_some, map, IfErr, IfOk};
 ghost use Rattle.std.specs.List.{list_all};
 ghost use Rattle.clap.specs.Words.{found_of, rows_of};
-ghost use Rattle.command_line.specs.LoadNumbers.{AreNumbersOf, default_timeout, flags_said};
 ghost use Rattle.command_line.specs.LoadPlans.{IsLoadPlanOf, IsLoadRefused, has_conflict};
 ghost use Rattle.command_line.specs.LoadPlans.{is_plain, leaves_plain};
 ghost use Rattle.command_line.specs.OptionTable.{facts_of};
 ghost use Rattle.command_line.specs.Options.{is_used};
 ghost use Rattle.command_line.specs.Refusals.{IsWhy};
 
-use crate::load_numbers::{has_urls, load_options};
-use crate::load_plan::{LoadPlan, MeasuredFlags, MeasuredNumbers};
+use crate::load_measured::{flags_of, numbers_of};
+use crate::load_numbers::load_options;
+use crate::load_plan::LoadPlan;
 use crate::load_urls::{load_urls, url_jobs};
 use crate::options;
-use crate::options::{
-    CONNECTIONS, FAIL, FAIL_ABOVE, FORBID_REUSE, HEAD, JOBS, LOAD_JSON, LOAD_PICTURE, LOAD_TIMEOUT,
-    NO_PROGRESS, OptionRow, QUIET, RATE, SECONDS, SITES, TRACE, URL, URLS, WARMUP,
-};
+use crate::options::{JOBS, LOAD_PICTURE, OptionRow, SECONDS, SITES, TRACE, URL, URLS};
 use crate::refusal::{Refusal, wrong};
 use crate::resolve::given_hosts;
-use crate::values::{count, flag, is_used, text, texts};
+use crate::values::{is_used, text, texts};
 use clap::ArgMatches;
 use std::alloc::Global;
 
@@ -81,41 +78,6 @@ fn are_used(given: &ArgMatches<'_>, one: &OptionRow, other: &OptionRow) -> bool
         && is_used (rows_of (found_of given.now)) (facts_of other.now)) }
 {
     is_used(given, one) && is_used(given, other)
-}
-
-// Returns the numbers of a load other than the six.
-fn numbers_of(given: &ArgMatches<'_>) -> MeasuredNumbers
-    ensures { AreNumbersOf (rows_of (found_of given.now)) result }
-{
-    MeasuredNumbers {
-        connections: count(given, &CONNECTIONS),
-        seconds: count(given, &SECONDS),
-        warmup: count(given, &WARMUP).unwrap_or(0),
-        rate: count(given, &RATE),
-        timeout: count(given, &LOAD_TIMEOUT).or(default_timeout(given)),
-        fail_above: count(given, &FAIL_ABOVE),
-    }
-}
-
-// Returns the time limit of a request if none is given, in seconds.
-fn default_timeout(given: &ArgMatches<'_>) -> Option<u32>
-    ensures { result ≡ default_timeout (rows_of (found_of given.now)) }
-{
-    if has_urls(given) { Some(30) } else { None }
-}
-
-// Returns the flags of the words.
-fn flags_of(given: &ArgMatches<'_>) -> MeasuredFlags
-    ensures { result ≡ flags_said (rows_of (found_of given.now)) }
-{
-    MeasuredFlags {
-        head: flag(given, &HEAD),
-        forbid_reuse: flag(given, &FORBID_REUSE),
-        fail: flag(given, &FAIL),
-        json: flag(given, &LOAD_JSON),
-        quiet: flag(given, &QUIET),
-        no_progress: flag(given, &NO_PROGRESS),
-    }
 }
 
 // Returns true if the options that are used leave a load plain.

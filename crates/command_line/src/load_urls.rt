@@ -8,7 +8,7 @@ ghost use Rattle.command_line.specs.LoadUrls.{AreBadUrls, ArePlannedUrls, url_jo
 ghost use Rattle.command_line.specs.Refusals.{IsWhy};
 
 use crate::get_plan::method_of;
-use crate::load_plan::MeasuredFlags;
+use crate::load_measured::MeasuredFlags;
 use crate::options::{URL, URLS};
 use crate::refusal::{Refusal, wrong};
 use crate::url_target::checked_target;

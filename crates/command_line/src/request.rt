@@ -1,10 +1,11 @@
 //! What the words ask for.
 
 ghost use Rattle.std.specs.Prelude.{◌≡◌, IfErr, IfOk, map};
-ghost use Rattle.clap.specs.Words.{fault_of, found_of, kind_of, rows_of, subcommand_of};
+ghost use Rattle.clap.specs.Words.{found_of, kind_of, rows_of};
 ghost use Rattle.clap.specs.Words.{subcommand_rows_of};
 ghost use Rattle.command_line.specs.CommandLine.{AnswersError, AnswersSaid, IsRefusal};
-ghost use Rattle.command_line.specs.CommandLine.{IsSaidRefused, MayAsk, Plans, class_of, curlpool};
+ghost use Rattle.command_line.specs.CommandLine.{IsSaidRefused, MayAsk, Plans, class_of};
+ghost use Rattle.command_line.specs.CommandLine.{faults_in, rows_in};
 ghost use Rattle.command_line.specs.CommandLine.{said, said_as, said_in, word_faults};
 ghost use Rattle.command_line.specs.Refusals.{IsWhy};
 
@@ -70,8 +71,8 @@ pub(crate) fn request_of(alloc: Global, words: Words) -> Request
 
 // Returns what words that were read ask for.
 fn parsed(alloc: Global, words: &[&str]) -> Request
-    ensures { MayAsk (fault_of curlpool (map (λ word. word.now) words.now))
-        (said_in (subcommand_of curlpool (map (λ word. word.now) words.now))) result }
+    ensures { MayAsk (faults_in (map (λ word. word.now) words.now))
+        (said_in (rows_in (map (λ word. word.now) words.now))) result }
 {
     match parse(alloc, words) {
         Ok(matches) => request_in(alloc, &matches),

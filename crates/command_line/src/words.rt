@@ -1,12 +1,14 @@
 //! The program's command line as `clap` reads it.
 
 ghost use Rattle.std.specs.Prelude.{◌≡◌, false, IfOk, codes, map, string_bytes};
-ghost use Rattle.clap.specs.Words.{FailsBy, app_of, fault_of, kind_of, new_app, new_rule, rule_of};
-ghost use Rattle.clap.specs.Words.{subcommand_of, subcommand_rows_of, with_subcommand};
+ghost use Rattle.clap.specs.Words.{FailsBy, app_of, kind_of, new_app, new_rule, rule_of};
+ghost use Rattle.clap.specs.Words.{subcommand_rows_of, with_subcommand};
 ghost use Rattle.clap.specs.declared.builder.command.Command.TheViews.{out-Command};
 ghost use Rattle.command_line.specs.OptionTable.{facts_of};
 ghost use Rattle.command_line.specs.Options.{command_app, named_rule, option_rule};
-ghost use Rattle.command_line.specs.CommandLine.{curlpool, needing_a_subcommand, read_words};
+ghost use Rattle.command_line.specs.CommandLine.{curlpool, faults_in, first_word};
+ghost use Rattle.command_line.specs.CommandLine.{needing_a_subcommand, options_if};
+ghost use Rattle.command_line.specs.CommandLine.{read_words, rows_in};
 
 use crate::build::{BUILD, version};
 use crate::help::{AUDITS, COMMANDS, EXAMPLES, LINES, REPORT};
@@ -32,11 +34,12 @@ pub enum Words {
 ///
 /// An error of `clap`: the words are wrong, or ask for help or the version, or memory ran out.
 pub(crate) fn parse<'a>(alloc: Global, words: &'a [&'a str]) -> Result<ArgMatches<'a>, Error>
-    ensures fails { FailsBy (fault_of curlpool (map (λ word. word.now) words.now)) result }
+    ensures fails { FailsBy (faults_in (map (λ word. word.now) words.now)) result }
     ensures rows { IfOk result (λ matches.
-        subcommand_rows_of matches ≡ subcommand_of curlpool (map (λ word. word.now) words.now)) }
+        subcommand_rows_of matches ≡ rows_in (map (λ word. word.now) words.now)) }
 {
-    let matches = command(alloc)?.try_get_matches_from(words)?;
+    let command = command(alloc, first_of(words))?;
+    let matches = command.try_get_matches_from(words)?;
     Ok(matches)
 }
 
@@ -44,7 +47,7 @@ pub(crate) fn parse<'a>(alloc: Global, words: &'a [&'a str]) -> Result<ArgMatche
 pub(crate) fn not_text(alloc: Global) -> Result<Error, AllocError>
     ensures { IfOk result (λ error. kind_of error ≡ ErrorKind.ValueValidation) }
 {
-    let mut command = command(alloc)?;
+    let mut command = command(alloc, "")?;
     command.error(
         ErrorKind::ValueValidation,
         "invalid UTF-8 was detected in one or more arguments",
@@ -81,18 +84,37 @@ fn texts_of<'a>(alloc: Global, words: &'a [String]) -> Result<Vec<&'a str>, Allo
     Ok(texts)
 }
 
-// Returns the program's command line.
-fn command<'a>(alloc: Global) -> Result<Command<'a>, AllocError>
-    ensures { IfOk result (λ command. app_of command ≡ curlpool) }
+// Returns the word after the program's name, or no text.
+fn first_of<'a>(words: &[&'a str]) -> &'a str
+    ensures { result.now ≡ first_word (map (λ word. word.now) words.now) }
+{
+    match words {
+        [_, first, ..] => first,
+        _ => "",
+    }
+}
+
+// Returns the program's command line for words that begin with `first`. Only the command of that
+// name has its options: no others can be met.
+fn command<'a>(alloc: Global, first: &str) -> Result<Command<'a>, AllocError>
+    ensures { IfOk result (λ command. app_of command ≡ curlpool first.now) }
 {
     let program = bare_program(alloc)?;
-    let script = subcommand(alloc, "script", script_options())?;
+    let script = subcommand(
+        alloc,
+        "script",
+        options_if(first == "script", script_options()),
+    )?;
     let program = with_command(program, script, SCRIPT_ABOUT, COMMANDS)?;
-    let get = subcommand(alloc, "get", get_options())?;
+    let get = subcommand(alloc, "get", options_if(first == "get", get_options()))?;
     let program = with_command(program, get, GET_ABOUT, LINES)?;
-    let load = subcommand(alloc, "load", load_options())?;
+    let load = subcommand(alloc, "load", options_if(first == "load", load_options()))?;
     let program = with_command(program, load, LOAD_ABOUT, REPORT)?;
-    let audit = subcommand(alloc, "audit", audit_options())?;
+    let audit = subcommand(
+        alloc,
+        "audit",
+        options_if(first == "audit", audit_options()),
+    )?;
     let program = with_command(program, audit, AUDIT_ABOUT, AUDITS)?;
     Ok(program)
 }
@@ -110,6 +132,13 @@ fn bare_program<'a>(alloc: Global) -> Result<Command<'a>, AllocError>
         .subcommand_required(true)
         .disable_help_subcommand(true);
     Ok(program)
+}
+
+// Returns these options of a command if it is named.
+fn options_if(is_named: bool, options: &'static [OptionRow]) -> &'static [OptionRow]
+    ensures { map facts_of result.now ≡ options_if is_named (map facts_of options.now) }
+{
+    if is_named { options } else { &[] }
 }
 
 /// The start of the commands' help.

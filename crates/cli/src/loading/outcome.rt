@@ -4,10 +4,8 @@ ghost use Rattle.std.specs.Prelude.{◌≡◌, IfOk};
 ghost use Rattle.cli.specs.LoadStatuses.{status_after};
 
 use crate::loading::failure::LoadFailure;
+use crate::status::Status;
 use std::alloc::{AllocError, Global};
-
-/// The status if a file was not written.
-const FAILED: u8 = 4;
 
 /// The outcome of a load that was carried out.
 #[derive(Debug, Drop)]
@@ -49,7 +47,11 @@ impl LoadOutcome {
         Ok(LoadOutcome {
             report,
             note,
-            status: if status == 0 { FAILED } else { status },
+            status: if status == 0 {
+                Status::Failed.code()
+            } else {
+                status
+            },
         })
     }
 }

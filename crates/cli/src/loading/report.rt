@@ -11,6 +11,7 @@ use crate::loading::fault::{LoadFault, OUT_OF_MEMORY};
 use crate::loading::files::{OutputFile, unwritten};
 use crate::loading::outcome::LoadOutcome;
 use crate::loading::sites::LoadSites;
+use crate::status::Status;
 use cache_report::{JobSums, report_with};
 use command_line::{BUILD, LoadPlan, MeasuredNumbers, VERSION};
 use load_figures::{
@@ -22,12 +23,6 @@ use load_run::LoadedMany;
 use script_run::Sink;
 use script_text::FaultKind;
 use std::alloc::{AllocError, Global};
-
-/// The status if more jobs failed than may fail.
-const FAILED_ABOVE: u8 = 5;
-
-/// The status if no job has a good response.
-const NONE_GOOD: u8 = 4;
 
 /// Makes a load's outcome: its report, its note and its status.
 ///
@@ -131,13 +126,13 @@ fn load_status(is_plain: bool, fails: bool, good: u64) -> u8
     ensures { result ≡ load_status is_plain fails good }
 {
     if fails {
-        FAILED_ABOVE
+        Status::FailedAbove.code()
     } else if is_plain {
-        0
+        Status::Done.code()
     } else if good == 0 {
-        NONE_GOOD
+        Status::Failed.code()
     } else {
-        0
+        Status::Done.code()
     }
 }
 

@@ -14,18 +14,13 @@ use crate::loading::outcome::LoadOutcome;
 use crate::loading::report::{outcome_of, report_of_load, write_picture};
 use crate::loading::sites::{LoadSites, SiteFault};
 use crate::loading::watch::LoadWatch;
+use crate::status::Status;
 use command_line::{LoadOptions, LoadPlan};
 use load_run::{LoadTimes, LoadedMany, ManyPlan, Rate, load_many};
 use std::alloc::{AllocGlobal, Global};
 use std::random::RandomSource;
 use std::sync::Wait;
 use std::thread::Threads;
-
-/// The status of a load without a report.
-const FAILED: u8 = 4;
-
-/// The status of a load that Ctrl-C ended.
-const INTERRUPTED: u8 = 130;
 
 /// Runs a load. Finds the addresses of its sites first, then creates its files.
 ///
@@ -73,7 +68,7 @@ fn load_at<R: Threads + Wait + RandomSource + AllocGlobal + Sync>(
     let outcome = written(alloc, plan, sites, &loaded, trace, pictured)?;
     if watch.is_interrupted() || lacks_jobs(plan, &loaded) {
         return Ok(LoadOutcome {
-            status: INTERRUPTED,
+            status: Status::Interrupted.code(),
             ..outcome
         });
     }
@@ -122,7 +117,7 @@ fn unknown(alloc: Global, host: &str) -> Result<LoadOutcome, LoadFailure>
     Ok(LoadOutcome {
         report: String::new(alloc),
         note,
-        status: FAILED,
+        status: Status::Failed.code(),
     })
 }
 

@@ -12,10 +12,10 @@ returns-then-is_interrupted g c = record {
     report_is = c.in_ok-outcome.ensures.report_is;
     by_results = c.in_ok-outcome.ensures.by_results;
     results_are = c.in_ok-outcome.ensures.results_are;
-    status_is = inr (inr refl);
+    status_is = inr (inr c.code.ensures);
   };
-  whole = λ other. absurd (other refl);
-  of_results = λ counts _. absurd (counts.whole refl);
+  whole = λ other. absurd (other c.code.ensures);
+  of_results = λ counts _. absurd (counts.whole c.code.ensures);
 }
 
 pub returns : goal.returns
