@@ -217,7 +217,7 @@ With URLs, by --url or as arguments, job K requests URL K modulo their number.
 The system looks a host name up, unless it is localhost, an address, or given by
 --resolve.
 
-With any option after --trace above, a summary is printed on standard error:
+With a URL or an option after --trace, a summary is printed on standard error:
 requests, bytes of bodies, latency, connections (and the time that requests
 waited for one, in total), statuses and faults. Without --seconds, the load ends
 after --jobs requests.
@@ -249,7 +249,7 @@ cannot write        The report could not be written
 cannot write FILE: REASON
                     The trace or the picture could not be written
 unknown host NAME   A URL's host could not be resolved
-no good response    With any option after --trace above: no request succeeded
+no good response    With a URL or an option after --trace: no request succeeded
 
 Status              0: the report was written; 2: invalid command line, and
                     nothing was done; 4: no good response, no report, or part of
