@@ -17,7 +17,7 @@ use crate::options;
 use crate::options::{JOBS, LOAD_PICTURE, OptionRow, SECONDS, SITES, TRACE, URL, URLS};
 use crate::refusal::{Refusal, wrong};
 use crate::resolve::given_hosts;
-use crate::values::{is_used, text, texts};
+use crate::values::{is_used, text, text_count};
 use clap::ArgMatches;
 use std::alloc::Global;
 
@@ -38,7 +38,7 @@ pub(crate) fn load_plan(alloc: Global, given: &ArgMatches<'_>) -> Result<LoadPla
     }
     let flags = flags_of(given);
     let urls = load_urls(alloc, given)?;
-    let named = texts(alloc, given, &URL)?.len();
+    let named = text_count(given, &URL);
     let jobs = url_jobs(alloc, urls.as_slice(), named, flags)?;
     let resolved = given_hosts(alloc, given)?;
     let trace = text(alloc, given, &TRACE)?;
@@ -87,7 +87,7 @@ fn is_plain(given: &ArgMatches<'_>) -> bool
     leave_plain(given, options::load_options())
 }
 
-// Returns true if those of these options that are used leave a load plain.
+// Returns true if each of these options is unused, or leaves a load plain.
 fn leave_plain(given: &ArgMatches<'_>, options: &[OptionRow]) -> bool
     ensures { result ≡ list_all (leaves_plain (rows_of (found_of given.now)))
         (map facts_of options.now) }

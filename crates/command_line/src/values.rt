@@ -82,6 +82,14 @@ pub(crate) fn texts(
     Ok(copies)
 }
 
+/// Returns the number of texts that are given for an option.
+pub(crate) fn text_count(given: &ArgMatches<'_>, option: &OptionRow) -> usize {
+    match given.get_raw(option.name) {
+        Some(texts) => texts.len(),
+        None => 0,
+    }
+}
+
 /// Appends copies of the texts that are given for an option or operand.
 ///
 /// # Errors
