@@ -1,4 +1,4 @@
--- The program's command line: what its words ask for.
+-- The program's command line, and the requests that words make.
 use Rattle.std.specs.Prelude.{◌≡◌, ◌⊎◌, ℕ, Bool, true, List, [], ◌∷◌, ◌++◌, codes, map, string_bytes, Option, Some, None, if◌then◌else◌}
 use Rattle.std.specs.Str.{bytes_eq}
 use Rattle.clap.specs.Words.{App, Kinds, IsAmong, Row, Text, fault_of, new_app, subcommand_of, with_subcommand}
@@ -55,7 +55,7 @@ abbrev pub read_words : List Text → List Text
 read_words (program ∷ first ∷ others) = if bytes_eq first (codes "help") then program ∷ (others ++ (codes "--help" ∷ [])) else program ∷ first ∷ others
 read_words words = words
 
--- what may be wrong with the words, if they name no subcommand (a request for help counts); nothing, if they do
+-- the faults of words, a request for help among them; none if they are valid
 abbrev pub faults_of : List Text → Kinds
 faults_of words = faults_in (read_words words)
 
@@ -68,8 +68,7 @@ word_faults NoMemory = kinds.OutOfMemory ∷ []
 abbrev pub rows_after : List Text → Option (Text × List Row)
 rows_after words = rows_in (read_words words)
 
--- what words say, by the rows of a subcommand: to run a script, to fetch URLs, to carry out a load, to judge a trace; or
--- nothing
+-- the meaning of words, with the rows of their subcommand: run a script, fetch URLs, run a load, audit a trace; or none
 pub data Said : Type 0 where
   nothing : Said
   script : List Row → Said
@@ -160,7 +159,7 @@ AnswersSaid said (requests.Refuse text) = IsSaidRefused said
 AnswersSaid said requests.NoMemory = Unit {0}
 AnswersSaid said request = Plans said request
 
--- what words with these faults may ask for; `Lacks` holds if memory ran out
+-- a request that words with these faults may make; `Lacks` holds if memory ran out
 abbrev pub AsksUnless : Type 0 → Kinds → Said → Request → Type 0
 AsksUnless Lacks faults said (requests.Tell text) = HasClass faults classes.Asked
 AsksUnless Lacks faults said (requests.Refuse text) = HasClass faults classes.Mistake ⊎ ((faults ≡ []) × IsSaidRefused said)

@@ -30,8 +30,8 @@ flags_said rows = record {
   json = flag_said (codes "json") rows;
 }
 
--- the options are those of the words. Without them one transfer is in flight at once, nothing is limited, connections are
--- reused that were idle for at most 118 seconds, whatever their age, and a transfer may take 30 seconds
+-- the options that the words give. The defaults are one transfer in flight, no limits, reuse of connections idle for at
+-- most 118 seconds, at any age, and a time limit of 30 seconds
 pub record AreOptionsOf (rows : List Row) (options : CrawlOptions) : Type 0 where
   pub method_is : options.method ≡ method_said (flag_said (codes "head") rows)
   pub parallel_is : options.parallel ≡ unwrap_or (number_said (codes "parallel") Number 1 256 rows) 1

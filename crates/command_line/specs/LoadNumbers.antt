@@ -25,7 +25,7 @@ has_bad_jobs rows = is_outside (codes "jobs") Number 1 (most_jobs rows) rows
 abbrev pub kept_for : List Row → ℕ → ℕ
 kept_for rows jobs = if is_given (codes "seconds") rows then 65535 else min (4 * jobs) 65535
 
--- the six numbers are those of the words; without them 2 sites, 20 jobs, 4 workers, no limits, and the default number of
+-- the six numbers that the words give. The defaults are 2 sites, 20 jobs, 4 workers, no limits, and the default number of
 -- idle connections
 pub record AreLoadOptions (rows : List Row) (options : LoadOptions) : Type 0 where
   pub numbers_good : has_bad load_options rows ≡ false

@@ -5,7 +5,7 @@ use Rattle.command_line.specs.declared.options.OptionRow.{OptionRow}
 use Rattle.command_line.specs.declared.options.Takes.{Takes}
 use Rattle.command_line.specs.declared.options.Takes.TheVariants as takes
 
--- an option: its names, what it takes, the range of its number, and whether it leaves a load plain
+-- an option: names, kind, range of its number; `is_plain` if a load with it prints only its report
 pub record OptionFacts : Type 0 where
   pub name : Text
   pub short : Option ℕ

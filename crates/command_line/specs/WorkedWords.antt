@@ -1,4 +1,4 @@
--- Small command lines, and what they ask for.
+-- Small command lines, with their faults and values.
 use Rattle.std.specs.Prelude.{◌≡◌, true, false, List, [], ◌∷◌, codes, Some, None, unwrap_or}
 use Rattle.std.specs.Option.{option_map}
 use Rattle.clap.specs.Words.{Kinds, Row, Text}

@@ -15,7 +15,7 @@ pub trait ArgsAlloc {
     /// Number of allocation failures; at the greatest u64 the count stays.
     ghost wants: { Self → ℕ };
 
-    /// Returns what the words ask for. `NoMemory` counts as an allocation failure.
+    /// Returns the request that the words make. `NoMemory` counts as an allocation failure.
     fn request(&mut self, words: Words) -> Request
         ensures { Asks (word_faults words) (said words) (wants self.old) (wants self.new) result };
 }

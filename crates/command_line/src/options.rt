@@ -7,7 +7,7 @@ ghost use Rattle.std.specs.Prelude.{◌≡◌, map};
 ghost use Rattle.command_line.specs.OptionTable.{audit_options, facts_of, get_options};
 ghost use Rattle.command_line.specs.OptionTable.{load_options, script_options};
 
-/// What follows an option on the command line.
+/// Kind of an option, by the value that follows it.
 #[derive(Clone, Copy)]
 pub enum Takes {
     /// Nothing: the option is a flag.
@@ -269,7 +269,7 @@ pub const LOAD_PICTURE: OptionRow = text!(
     "Draw requests, failures and latencies over time as SVG"
 );
 
-/// Requests this `http` URL. May be repeated: up to 8 URLs, those of operands included, are used
+/// Requests this `http` URL. May be repeated: up to 8 URLs, with those given as arguments, are used
 /// round robin. Not with `--sites`.
 pub const URL: OptionRow = OptionRow {
     takes: Takes::Texts,

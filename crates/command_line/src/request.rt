@@ -1,4 +1,4 @@
-//! What the words ask for.
+//! Requests that the words make.
 
 ghost use Rattle.std.specs.Prelude.{◌≡◌, IfErr, IfOk, map};
 ghost use Rattle.clap.specs.Words.{found_of, kind_of, rows_of};
@@ -22,7 +22,7 @@ use clap::error::ErrorKind;
 use clap::{ArgMatches, Error};
 use std::alloc::Global;
 
-/// What the words ask for.
+/// Request that the words make.
 #[derive(Drop)]
 pub enum Request {
     /// To run a script.
@@ -52,7 +52,7 @@ pub enum ErrorClass {
     Mistake,
 }
 
-/// Returns what the words ask for.
+/// Returns the request that the words make.
 pub(crate) fn request_of(alloc: Global, words: Words) -> Request
     ensures { MayAsk (word_faults words) (said words) result }
 {
@@ -69,7 +69,7 @@ pub(crate) fn request_of(alloc: Global, words: Words) -> Request
     }
 }
 
-// Returns what words that were read ask for.
+// Returns the request of words in the form that `clap` reads.
 fn parsed(alloc: Global, words: &[&str]) -> Request
     ensures { MayAsk (faults_in (map (λ word. word.now) words.now))
         (said_in (rows_in (map (λ word. word.now) words.now))) result }
@@ -80,7 +80,7 @@ fn parsed(alloc: Global, words: &[&str]) -> Request
     }
 }
 
-// Returns what the words after a command ask for.
+// Returns the request of the words after a command.
 fn request_in(alloc: Global, matches: &ArgMatches<'_>) -> Request
     ensures { AnswersSaid (said_in (subcommand_rows_of matches.now)) result }
 {

@@ -13,7 +13,7 @@ use std::alloc::{AllocError, Global};
 /// The words after `script`.
 #[derive(Drop)]
 pub struct ScriptWords {
-    /// True if a trace is printed in place of the transcript.
+    /// True if a trace is printed instead of the transcript.
     pub is_traced: bool,
     /// The file for the picture.
     pub picture: Option<String>,

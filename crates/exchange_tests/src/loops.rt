@@ -517,7 +517,7 @@ impl Timer for Noted {
     }
 }
 
-/// Maximum number of connections to the host, and whether one of two transfers has to wait.
+/// Maximum number of connections to the host; true if one of two transfers has to wait.
 static WAITS: [(u32, bool); 2] = [(1, true), (2, false)];
 
 #[test]

@@ -50,7 +50,7 @@ is_exact first = is_exact_with (bytes_eq first (codes "script")) (bytes_eq first
 has_matches : (first : Text) → is_simple (curlpool first) ≡ true
 has_matches first = has_matches_with (bytes_eq first (codes "script")) (bytes_eq first (codes "get")) (bytes_eq first (codes "load")) (bytes_eq first (codes "audit"))
 
--- the command that is made is that of the first word
+-- the command line that was built is the one for the first word
 made-for : (command : App) (words : List Text) (first : Text) → command ≡ curlpool first → first ≡ first_word words → command ≡ curlpool (first_word words)
 made-for command words first is same = is ∙ ap curlpool same
 
