@@ -10,16 +10,16 @@ use Rattle.conn_log.specs.declared.entry.Want.{Want}
 use Rattle.conn_log.specs.declared.entry.Event.{Event}
 use Rattle.conn_log.specs.declared.entry.Entry.{Entry}
 use Rattle.conn_log.specs.Legal.{IsLegal}
-use Rattle.monitor.specs.Rules.{first_broken}
-use Rattle.monitor.specs.Tables.{HostLog}
-use Rattle.monitor.specs.AllHosts.{AllHosts, begun, begun_hosts, host_at}
-use Rattle.monitor.proofs.AllowedEvents.{legal_keeps}
+use Rattle.log_judge.specs.Rules.{first_broken}
+use Rattle.log_judge.specs.Tables.{HostLog}
+use Rattle.log_judge.specs.AllHosts.{AllHosts, begun, begun_hosts, host_at}
+use Rattle.log_judge.proofs.AllowedEvents.{legal_keeps}
 use Rattle.trace_text.specs.declared.line.Traced.{Traced}
 use Rattle.audit.specs.declared.fault.AuditFault.{AuditFault}
 use Rattle.audit.specs.declared.host.TracedConnection.{TracedConnection}
 use Rattle.audit.specs.declared.hosts.Breach.{Breach}
 use Rattle.audit.specs.declared.hosts.Breach.TheVariants.{InLog, Beside}
-use Rattle.monitor.specs.declared.violation.Violation.{Violation}
+use Rattle.log_judge.specs.declared.violation.Violation.{Violation}
 use Rattle.audit.specs.declared.rule.Rule.{Rule}
 use Rattle.audit.specs.declared.host.TracedHost.{TracedHost}
 use Rattle.audit.specs.Tables.{known_in, next_in, IsJudgedBy}

@@ -2,9 +2,9 @@
 use Rattle.std.specs.Prelude.{◌≡◌, ℕ, ◌+◌, ◌-◌, ◌^◌, ◌≤◌, ◌⊎◌, ◌||◌, min, Bool, true, false, Option, Some, None, IsSome, Result, Ok}
 use Rattle.std.specs.Option.{option_or, option_map, option_map_or}
 use Rattle.std.specs.List.{sum_by}
-use Rattle.monitor.specs.Tables.{open_at}
+use Rattle.log_judge.specs.Tables.{open_at}
 use Rattle.budget.specs.Limits.{Bounds}
-use Rattle.monitor.specs.AllHosts.{AllHosts, begun_hosts}
+use Rattle.log_judge.specs.AllHosts.{AllHosts, begun_hosts}
 use Rattle.script_text.specs.declared.fault.FaultKind.{FaultKind}
 use Rattle.trace_text.specs.declared.line.Traced.{Traced}
 use Rattle.trace_text.specs.declared.line.TracedEvent.{TracedEvent}

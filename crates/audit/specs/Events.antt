@@ -9,9 +9,9 @@ use Rattle.conn_log.specs.declared.entry.Event.{Event}
 use Rattle.conn_log.specs.declared.entry.Event.TheVariants.{Opened, Leased, Returned, Closed, Waited, Left, Limit}
 use Rattle.conn_log.specs.declared.entry.Entry.{Entry}
 use Rattle.conn_log.specs.Legal.{IsLegal}
-use Rattle.monitor.specs.Rules.{first_broken}
-use Rattle.monitor.specs.Tables.{HostLog}
-use Rattle.monitor.specs.AllHosts.{AllHosts, host_at, more_at}
+use Rattle.log_judge.specs.Rules.{first_broken}
+use Rattle.log_judge.specs.Tables.{HostLog}
+use Rattle.log_judge.specs.AllHosts.{AllHosts, host_at, more_at}
 use Rattle.trace_text.specs.declared.line.TracedEvent.{TracedEvent}
 use Rattle.trace_text.specs.declared.line.TracedEvent.TheVariants as traced
 use Rattle.budget.specs.Limits.{or_greatest}

@@ -1,7 +1,7 @@
 -- What comes of an event of a trace.
 use Rattle.std.specs.Prelude.{◌≡◌, true, Option, None, IsSome}
 use Rattle.conn_log.specs.declared.entry.Want.{Want}
-use Rattle.monitor.specs.AllHosts.{AllHosts, host_at}
+use Rattle.log_judge.specs.AllHosts.{AllHosts, host_at}
 use Rattle.trace_text.specs.declared.line.Traced.{Traced}
 use Rattle.audit.specs.declared.host.TracedHost.{TracedHost}
 use Rattle.audit.specs.declared.hosts.Outcome.{Outcome}

@@ -3,7 +3,7 @@
 ghost use Rattle.std.specs.Prelude.{◌≡◌, ◌≤◌, ◌+◌, length, Err, None, IsSome};
 ghost use Rattle.std.specs.Prelude.{IfOk, IfErr, OnOk};
 ghost use Rattle.std.specs.List.{sum_by};
-ghost use Rattle.monitor.specs.Tables.{open_at};
+ghost use Rattle.log_judge.specs.Tables.{open_at};
 ghost use Rattle.trace_text.specs.Lines.{trace_reading};
 ghost use Rattle.audit.specs.Audits.{not_begun, open_in, Comes, ReadsEvent, ReadsOther, ReadsLine};
 ghost use Rattle.audit.specs.Audits.{Begins, KeepsLogs, is_wait, with_line};
@@ -13,10 +13,11 @@ use crate::finding::{Broken, Finding};
 use crate::hosts::{Outcome, TracedHosts};
 use budget::{GREATEST_LIMIT, Limits};
 use conn_key::{CountedMemory, Sites, SitesFault};
-use script_text::{Action, Command, FaultKind, HostCommand, SiteWord, first_word};
+use script_text::{Action, Command, FaultKind, HostCommand, SiteWord};
 use std::alloc::{AllocError, Global};
 use std::marker::Model;
 use std::mem;
+use streams::first_word;
 use trace_text::{Line, Traced, TracedEvent, read_line};
 
 /// An audit of a trace: reads it line by line, and keeps the violations that it found.

@@ -2,7 +2,7 @@
 
 ghost use Rattle.std.specs.Prelude.{◌≡◌, ◌<◌, ◌≤◌, length, None, Err, OnOk, OnErr};
 ghost use Rattle.std.specs.Prelude.{IfOk, IfErr, IfSome, IfNone};
-ghost use Rattle.monitor.specs.AllHosts.{begun_hosts, host_at};
+ghost use Rattle.log_judge.specs.AllHosts.{begun_hosts, host_at};
 ghost use Rattle.audit.specs.Events.{entry_at, breach_of, and_behind, IsTaken, AreLegal};
 ghost use Rattle.audit.specs.Outcomes.{IsOutcome, ComesOf};
 
@@ -13,7 +13,7 @@ use crate::judging::{Case, beside_log, close_behind, event_of};
 use crate::rule::Rule;
 use budget::Limits;
 use conn_log::{Entry, Event, Want};
-use monitor::{Fault, Monitor, Violation};
+use log_judge::{Fault, Monitor, Violation};
 use script_text::Ending;
 use std::alloc::{AllocError, Global};
 use std::marker::Model;
@@ -67,7 +67,7 @@ pub(crate) struct TracedHosts {
 
 impl Model for TracedHosts {
     ghost use Rattle.std.specs.Prelude.{◌≡◌, length};
-    ghost use Rattle.monitor.specs.AllHosts.{AllHosts};
+    ghost use Rattle.log_judge.specs.AllHosts.{AllHosts};
     ghost use Rattle.audit.specs.Events.{AreKept};
 
     ghost Value = { AllHosts };

@@ -13,7 +13,7 @@ use crate::hosts::Breach;
 use crate::rule::{Name, Rule};
 use budget::GREATEST_LIMIT;
 use conn_log::{Cause, Event, Want};
-use monitor::Violation;
+use log_judge::Violation;
 use trace_text::{Traced, TracedEvent};
 
 /// The connection that an event is of, by the number that the pool gave it, if it is of one.

@@ -6,7 +6,7 @@ ghost use Rattle.std.specs.Prelude.{◌≡◌};
 use crate::finding::Broken;
 use crate::hosts::TracedHosts;
 use crate::rule::{Name, Rule};
-use monitor::Unrest;
+use log_judge::Unrest;
 use std::alloc::AllocError;
 
 /// Notes whether a rule is broken, and tells whether it has become so.

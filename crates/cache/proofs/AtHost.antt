@@ -13,7 +13,7 @@ use Rattle.bundle.specs.declared.answers.Claimed.TheVariants.{Lease as Granted, 
 use Rattle.bundle.specs.Replies.{IfClaimed, IfStill}
 use Rattle.bundle.specs.Starts.{StartsLease, BeginsWait, ClaimsLease}
 use Rattle.bundle.specs.Lease.{HostShown, Leasing, Ticketed, KeepsStreams, KeepsOthers, KeepsItsStream, WasGranted, Spends, is_held_lease, is_valid_ticket, is_unclaimed}
-use Rattle.pool_rules.specs.AllHosts.{AllHosts}
+use Rattle.cache.specs.AllHosts.{AllHosts}
 use Rattle.cache.specs.Pools.{PoolShown, host_at, all_hosts, IsAcquired, StaysHost, KeepsHost, StreamsStay, OtherStreamsStay}
 use Rattle.cache.specs.PoolCalls.{IsCallAt, IsCallAtAll, IsLeasedAt, IsWaitAt, AcquiresLease, AcquiresTicket, GrantsLease, GrantsBy, TakesBack, AbandonsLease, WithdrawsTicket, IsStrangeTicket}
 use Rattle.cache.proofs.OneHost.{read_is, host_changed, others_keep}

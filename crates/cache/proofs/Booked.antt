@@ -12,7 +12,7 @@ use Rattle.conn_log.specs.Legal.{LimitAndFirst}
 use Rattle.host_rules.specs.Calls.{Reply, refusal, is_busy, GrowsBy}
 use Rattle.bundle.specs.Lease.{HostShown, Leasing, Ticketed, StaysThere, KeepsAll, KeepsStreams, HasItsStream}
 use Rattle.host_rules.specs.Bookings.{without_booked}
-use Rattle.pool_rules.specs.AllHosts.{AllHosts}
+use Rattle.cache.specs.AllHosts.{AllHosts}
 use Rattle.bundle.specs.declared.answers.Acquired.{Acquired as AcquiredOf}
 use Rattle.bundle.specs.declared.answers.Acquired.TheVariants.{Lease as LeaseOf, Wait as WaitOf}
 use Rattle.cache.specs.Pools.{PoolShown, host_at, IsAcquired, StaysPool, KeepsOtherHosts, StreamsStay, GivesLease, GivesTicket}

@@ -22,9 +22,9 @@ use Rattle.host_rules.specs.Counts.{held_by}
 use Rattle.host_rules.specs.Orders.{IsMarked}
 use Rattle.bundle.specs.Passes.{Accounts, tells, spends, withdraws, AccountsForStarts}
 use Rattle.host_rules.proofs.OtherHosts.{still_listed}
-use Rattle.oldest_stamp.specs.Oldest.{earlier_of, is_before, is_since_before, stamp_at}
+use Rattle.cache.specs.Oldest.{earlier_of, is_before, is_since_before, stamp_at}
 use Rattle.cache.specs.Pools.{IsKeptHost, AreKept}
-use Rattle.oldest_stamp.proofs.NotedStamps.{lowered_not_later, set_not_later}
+use Rattle.cache.proofs.NotedStamps.{lowered_not_later, set_not_later}
 use Rattle.cache.proofs.HostParts.{ChangesPart}
 use Rattle.cache.proofs.OneHost.{kept_changed, read_is}
 

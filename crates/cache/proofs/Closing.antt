@@ -14,10 +14,10 @@ use Rattle.host_rules.specs.Laws.{IsSoundAndQuiet}
 use Rattle.bundle.specs.Lease.{HostShown}
 use Rattle.host_rules.proofs.Counts.{evict_closes}
 use Rattle.bundle.proofs.TurnLogs.{of_idle_for_others}
-use Rattle.pool_rules.specs.AllHosts.{AllHosts, log_at, with_log, closed_of, without_oldest, oldest_of_all}
+use Rattle.cache.specs.AllHosts.{AllHosts, log_at, with_log, closed_of, without_oldest, oldest_of_all}
 use Rattle.cache.specs.Pools.{PoolShown, host_in, all_hosts}
 use Rattle.cache.specs.Turns.{IsOneFewer}
-use Rattle.pool_rules.proofs.OldestOfAll.{oldest_is}
+use Rattle.cache.proofs.OldestOfAll.{oldest_is}
 use Rattle.cache.proofs.OneHost.{log_is, logs_changed, read_is}
 use Rattle.cache.proofs.HostSums.{one_fewer}
 

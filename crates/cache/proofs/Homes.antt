@@ -7,7 +7,7 @@ use Rattle.std.proofs.lemmas.Option.{slice_get-map, slice_get-get_or, slice_get_
 use Rattle.std.proofs.Math.ListN.{get_or-map}
 use Rattle.std.proofs.Math.Seq.{map-set_same}
 use Rattle.conn_log.specs.declared.entry.Entry.{Entry}
-use Rattle.pool_rules.specs.AllHosts.{AllHosts}
+use Rattle.cache.specs.AllHosts.{AllHosts}
 use Rattle.bundle.specs.Seats.{Tables}
 use Rattle.bundle.specs.Lease.{HostShown, Leasing, Ticketed}
 use Rattle.cache_trait.specs.Homes.{IsMadeBy}

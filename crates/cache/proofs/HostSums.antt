@@ -12,7 +12,7 @@ use Rattle.host_rules.specs.Effects.{open_len, idle_len, Closes, OpensForHead}
 use Rattle.bundle.specs.Lease.{HostShown}
 use Rattle.host_rules.specs.Counts.{held_by}
 use Rattle.conn_log.specs.Legal.{LimitAndFirst}
-use Rattle.pool_rules.specs.AllHosts.{AllHosts, log_at, with_log, total, total_waiting, waiting_len}
+use Rattle.cache.specs.AllHosts.{AllHosts, log_at, with_log, total, total_waiting, waiting_len}
 use Rattle.cache.specs.Pools.{logs_of}
 use Rattle.cache.specs.Turns.{IsOneFewer}
 

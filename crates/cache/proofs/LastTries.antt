@@ -25,12 +25,12 @@ use Rattle.bundle.specs.Lease.{HostShown, Leasing, Ticketed, Booked}
 use Rattle.host_rules.specs.Counts.{held_by}
 use Rattle.bundle.specs.Replies.{IsGot}
 use Rattle.bundle.specs.declared.answers.Acquired.TheVariants.{Lease, Wait}
-use Rattle.pool_rules.specs.AllHosts.{AllHosts, log_at, with_log, terms, total, kept, has_room, with_room, without_oldest, marked}
-use Rattle.pool_rules.specs.Calls.{Acquired, acquired, started}
+use Rattle.cache.specs.AllHosts.{AllHosts, log_at, with_log, terms, total, kept, has_room, with_room, without_oldest, marked}
+use Rattle.cache.specs.Calls.{Acquired, acquired, started}
 use Rattle.cache.specs.Pools.{all_hosts, logs_of, IsAcquired}
 use Rattle.cache.specs.Turns.{IsOneFewer}
 use Rattle.cache.proofs.OneHost.{logs_changed, log_was, all_marked}
-use Rattle.pool_rules.proofs.Starts.{Tells, becomes, as_told, at_once, IsHalfway, halfway}
+use Rattle.cache.proofs.Starts.{Tells, becomes, as_told, at_once, IsHalfway, halfway}
 
 module _ {S : Type 0} where
   -- what the budget holds is what the logs count

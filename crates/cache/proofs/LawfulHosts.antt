@@ -8,7 +8,7 @@ use Rattle.conn_log.specs.declared.stamp.Stamp.{Stamp}
 use Rattle.host_rules.specs.Calls.{is_queued}
 use Rattle.bundle.specs.Lease.{HostShown}
 use Rattle.bundle.specs.Passes.{Accounts}
-use Rattle.pool_rules.specs.AllHosts.{IsLawful, terms, log_at}
+use Rattle.cache.specs.AllHosts.{IsLawful, terms, log_at}
 use Rattle.cache.specs.Pools.{no_host, host_in, logs_of, AreKept}
 use Rattle.cache.proofs.Sums.{total_is, kept_is, settled_at}
 

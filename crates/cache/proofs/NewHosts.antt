@@ -18,9 +18,9 @@ use Rattle.bundle.specs.Lease.{HostShown, IsNewHost}
 use Rattle.host_rules.specs.Counts.{held_by}
 use Rattle.bundle.specs.Passes.{Accounts}
 use Rattle.host_rules.proofs.Soundness.{nobody_after}
-use Rattle.pool_rules.specs.AllHosts.{terms}
+use Rattle.cache.specs.AllHosts.{terms}
 use Rattle.cache.specs.NewHosts.{AreNewHosts, new_seat, first_number}
-use Rattle.oldest_stamp.specs.Oldest.{stamp_at}
+use Rattle.cache.specs.Oldest.{stamp_at}
 use Rattle.cache.specs.Pools.{PoolShown, no_host, host_in, IsNewPool, IsKeptHost, AreKept}
 
 still_vacant : (n index : ℕ) → account_at {D = Did} (replicate n vacant) index ≡ vacant

@@ -21,8 +21,8 @@ use Rattle.host_rules.specs.Counts.{held_by}
 use Rattle.host_rules.specs.Orders.{order_after}
 use Rattle.bundle.specs.Passes.{Accounts}
 use Rattle.bundle.specs.Seats.{gone}
-use Rattle.oldest_stamp.specs.Oldest.{is_before, stamp_at}
-use Rattle.pool_rules.specs.AllHosts.{AllHosts, terms, log_at, with_log, queue_after, marked}
+use Rattle.cache.specs.Oldest.{is_before, stamp_at}
+use Rattle.cache.specs.AllHosts.{AllHosts, terms, log_at, with_log, queue_after, marked}
 use Rattle.cache.proofs.HostParts.{ChangesPart}
 use Rattle.cache.specs.Pools.{PoolShown, no_host, host_in, host_at, logs_of, all_hosts, IsKeptHost, AreKept, KeepsHost, KeepsOtherHosts}
 

@@ -27,11 +27,11 @@ use Rattle.host_rules.specs.Orders.{order_after_turn, HadTurn}
 use Rattle.bundle.specs.Lobbies.{IsServed}
 use Rattle.host_rules.proofs.Counts.{turn_opens}
 use Rattle.host_rules.proofs.OtherHosts.{listed_after_turn}
-use Rattle.oldest_stamp.specs.Oldest.{is_before, stamp_at}
-use Rattle.pool_rules.specs.AllHosts.{AllHosts, terms, log_at, has_room, total_waiting, after_turn_of}
+use Rattle.cache.specs.Oldest.{is_before, stamp_at}
+use Rattle.cache.specs.AllHosts.{AllHosts, terms, log_at, has_room, total_waiting, after_turn_of}
 use Rattle.cache.specs.Pools.{no_host, logs_of, host_in, all_hosts}
 use Rattle.cache.proofs.Calling.{MarksOne, NotesOne}
-use Rattle.pool_rules.proofs.OldestOfAll.{none_oldest}
+use Rattle.cache.proofs.OldestOfAll.{none_oldest}
 use Rattle.cache.proofs.HostParts.{ChangesPart}
 use Rattle.cache.proofs.OneHost.{log_was, logs_changed, read_is}
 use Rattle.cache.proofs.HostSums.{total_is, one_waits_less}

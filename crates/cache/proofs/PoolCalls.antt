@@ -11,10 +11,10 @@ use Rattle.bundle.specs.declared.answers.Claimed.TheVariants.{Lease as Granted, 
 use Rattle.cache_trait.specs.CacheCalls.{ClaimsBy}
 use Rattle.cache_trait.specs.CacheCalls.CacheCall.{leases, begins_wait, grants, finds_strange_ticket}
 use Rattle.cache_trait.specs.Homes.{IsLeaseFor, IsTicketFor, Claims}
-use Rattle.pool_rules.specs.AllHosts.{AllHosts, served}
-use Rattle.pool_rules.specs.Laws.{AnswersWant}
-use Rattle.pool_rules.specs.Calls.{Acquired, acquired, after_acquire, reply_of}
-use Rattle.pool_rules.proofs.Replies.{acquire_starts_or_waits}
+use Rattle.cache.specs.AllHosts.{AllHosts, served}
+use Rattle.cache.specs.Laws.{AnswersWant}
+use Rattle.cache.specs.Calls.{Acquired, acquired, after_acquire, reply_of}
+use Rattle.cache.proofs.Replies.{acquire_starts_or_waits}
 use Rattle.budget.specs.Limits.{Bounds}
 use Rattle.cache.specs.Turns.{KeepsSpent}
 use Rattle.cache.specs.Pools.{PoolShown, host_at, all_hosts, IsAcquired, StaysPool, IsMadeHere, IsTicketHere}

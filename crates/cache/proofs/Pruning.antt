@@ -11,8 +11,8 @@ use Rattle.host_rules.specs.Effects.{idle_len}
 use Rattle.host_rules.specs.Laws.{IsSoundAndQuiet}
 use Rattle.bundle.specs.Lease.{HostShown}
 use Rattle.host_rules.proofs.Counts.{prune_closes}
-use Rattle.pool_rules.specs.AllHosts.{AllHosts, log_at, with_log, kept}
-use Rattle.pool_rules.specs.Calls.{pruned, pruned_log, pruned_at, prune_count}
+use Rattle.cache.specs.AllHosts.{AllHosts, log_at, with_log, kept}
+use Rattle.cache.specs.Calls.{pruned, pruned_log, pruned_at, prune_count}
 use Rattle.cache.specs.Pools.{PoolShown, host_in, logs_of, all_hosts, KeepsHost, StaysPool, KeepsHosts}
 use Rattle.cache.specs.PoolCalls.{IsCallAtAll}
 use Rattle.cache.proofs.Keeping.{keeps_hosts, keeps_hosts_on, stays_pool, stays_pool_on}

@@ -27,13 +27,13 @@ use Rattle.host_rules.specs.Calls.{Start, Reply, starts, waits_on, no_room, agai
 use Rattle.host_rules.specs.Effects.{tidied}
 use Rattle.bundle.specs.Lease.{HostShown, Leasing, HasItsStream, KeepsStreams}
 use Rattle.bundle.specs.Replies.{IsGot}
-use Rattle.pool_rules.specs.AllHosts.{AllHosts, log_at, has_room, with_room, without_oldest, closed_of, oldest_of_all}
+use Rattle.cache.specs.AllHosts.{AllHosts, log_at, has_room, with_room, without_oldest, closed_of, oldest_of_all}
 use Rattle.bundle.specs.declared.answers.Acquired.{Acquired as AcquiredOf}
 use Rattle.bundle.specs.declared.answers.Acquired.TheVariants.{Lease as LeaseOf, Wait as WaitOf}
 use Rattle.cache.specs.Pools.{PoolShown, host_in, host_at, IsAcquired, GivesLease}
 use Rattle.cache.specs.Turns.{KeepStreams}
 use Rattle.cache.proofs.OneHost.{host_changed, other_host}
-use Rattle.pool_rules.proofs.OldestStamps.{idles_each, idles_closed}
+use Rattle.cache.proofs.OldestStamps.{idles_each, idles_closed}
 
 -- a start on a connection that was idle before
 abbrev pub IsReuse : List Entry → Reply → Type 0

@@ -21,8 +21,8 @@ use Rattle.bundle.specs.Lease.{HostShown, StaysThere}
 use Rattle.host_rules.specs.Counts.{held_by}
 use Rattle.host_rules.specs.Orders.{IsMarked, order_after}
 use Rattle.bundle.specs.Passes.{Accounts, tells, withdraws, AccountsForStarts}
-use Rattle.pool_rules.specs.AllHosts.{AllHosts}
-use Rattle.oldest_stamp.specs.Oldest.{is_before, stamp_at}
+use Rattle.cache.specs.AllHosts.{AllHosts}
+use Rattle.cache.specs.Oldest.{is_before, stamp_at}
 use Rattle.cache.specs.Pools.{PoolShown, no_host, logs_of, all_hosts, AreKept}
 use Rattle.cache.proofs.HostParts.{ChangesPart}
 use Rattle.cache.proofs.OneHost.{read_is}

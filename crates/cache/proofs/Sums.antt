@@ -14,7 +14,7 @@ use Rattle.host_rules.specs.Laws.{IsSoundAndQuiet}
 use Rattle.bundle.specs.Lease.{HostShown}
 use Rattle.host_rules.specs.Counts.{held_by}
 use Rattle.bundle.specs.Passes.{Accounts}
-use Rattle.pool_rules.specs.AllHosts.{terms}
+use Rattle.cache.specs.AllHosts.{terms}
 use Rattle.cache.specs.Pools.{no_host, host_in, logs_of, AreKept}
 
 module _ {S : Type 0} where

@@ -16,10 +16,10 @@ use Rattle.conn_log.specs.Fit.{is_idle_longer, first_by, oldest, oldest_stamp}
 use Rattle.bundle.specs.Lease.{HostShown}
 use Rattle.host_rules.specs.Counts.{held_by}
 use Rattle.bundle.specs.Passes.{Accounts}
-use Rattle.oldest_stamp.specs.Oldest.{is_before, earliest, stamp_at, stamps_from}
+use Rattle.cache.specs.Oldest.{is_before, earliest, stamp_at, stamps_from}
 use Rattle.cache.specs.Pools.{PoolShown, no_host, host_in, logs_of, AreKept}
-use Rattle.oldest_stamp.proofs.NotedStamps.{not_before_itself}
-use Rattle.oldest_stamp.proofs.StampOrder.{earliest_noted, none_noted, there_at, before_true, stale, fewer_stale, length_stamps, stamp_from, own_host, none_oldest}
+use Rattle.cache.proofs.NotedStamps.{not_before_itself}
+use Rattle.cache.proofs.StampOrder.{earliest_noted, none_noted, there_at, before_true, stale, fewer_stale, length_stamps, stamp_from, own_host, none_oldest}
 
 -- what the pool shows
 abbrev pub shown_as : {S : Type 0} → List (HostShown S) → Plain → Queue → PoolShown S

@@ -4,7 +4,7 @@ use Rattle.std.specs.Prelude.{if◌then◌else◌}
 use Rattle.budget.specs.Limits.{Bounds}
 use Rattle.conn_log.specs.declared.stamp.Stamp.{Stamp}
 use Rattle.conn_log.specs.declared.entry.Cause.{Cause}
-use Rattle.pool_rules.specs.AllHosts.{AllHosts, may_turn, turn_of_first, after_turn_of, with_room, closed_of, without_oldest, oldest_of_all, after_turns, served, total_waiting}
+use Rattle.cache.specs.AllHosts.{AllHosts, may_turn, turn_of_first, after_turn_of, with_room, closed_of, without_oldest, oldest_of_all, after_turns, served, total_waiting}
 use Rattle.cache.specs.Pools.{PoolShown, all_hosts, StaysPool, KeepsHosts}
 use Rattle.cache.specs.Turns.{KeepsSpent}
 use Rattle.cache.specs.PoolCalls.{IsCallAtAll}

@@ -8,8 +8,8 @@ use Rattle.conn_log.specs.declared.entry.Cause.TheVariants.{CacheFull}
 use Rattle.host_rules.specs.Calls.{becomes_idle, after_give_back}
 use Rattle.conn_log.specs.Connections.{is_open}
 use Rattle.bundle.specs.Lease.{Leasing, is_held_lease}
-use Rattle.pool_rules.specs.AllHosts.{AllHosts, log_at, with_log, terms, kept, can_keep, without_oldest, marked}
-use Rattle.pool_rules.specs.Calls.{with_room_to_keep, given_back}
+use Rattle.cache.specs.AllHosts.{AllHosts, log_at, with_log, terms, kept, can_keep, without_oldest, marked}
+use Rattle.cache.specs.Calls.{with_room_to_keep, given_back}
 use Rattle.cache.specs.Pools.{PoolShown, host_at, all_hosts}
 use Rattle.cache.specs.PoolCalls.{IsCallAtAll, TakesBack}
 use Rattle.cache.proofs.Homes.{call_at}

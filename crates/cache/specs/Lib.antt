@@ -2,3 +2,11 @@ pub mod Pools
 pub mod NewHosts
 pub mod Turns
 pub mod PoolCalls
+pub mod AllHosts
+pub mod Calls
+pub mod Laws
+pub mod OldestLaws
+pub mod Worked
+pub mod Oldest
+pub mod Trees
+pub mod StampLaws

@@ -17,8 +17,8 @@ use Rattle.bundle.specs.declared.answers.Claimed.{Claimed}
 use Rattle.bundle.specs.declared.answers.Claimed.TheVariants.{Lease as Granted, Still}
 use Rattle.cache_trait.specs.CacheCalls.{CacheCall}
 use Rattle.cache_trait.specs.CacheCalls.CacheCall.{leases, begins_wait, refuses, grants, keeps_waiting, gives_back, abandons, withdraws, finds_strange_lease, finds_strange_ticket}
-use Rattle.pool_rules.specs.AllHosts.{AllHosts}
-use Rattle.pool_rules.specs.Calls.{after_acquire, reply_of, after_giving_back, after_abandoning, after_withdrawing}
+use Rattle.cache.specs.AllHosts.{AllHosts}
+use Rattle.cache.specs.Calls.{after_acquire, reply_of, after_giving_back, after_abandoning, after_withdrawing}
 use Rattle.cache.specs.Pools.{PoolShown, host_at, all_hosts, cut_at, IsAcquired, GivesLease, GivesTicket, StaysHost, StaysPool, KeepsHosts, KeepsOtherHosts, StreamsStay, OtherStreamsStay}
 
 -- the tables of its hosts, by site

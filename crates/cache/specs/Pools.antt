@@ -19,8 +19,8 @@ use Rattle.bundle.specs.Passes.{Accounts}
 use Rattle.bundle.specs.Seats.{gone}
 use Rattle.bundle.specs.declared.answers.Acquired.{Acquired}
 use Rattle.bundle.specs.declared.answers.Acquired.TheVariants.{Lease, Wait}
-use Rattle.oldest_stamp.specs.Oldest.{is_before, stamp_at}
-use Rattle.pool_rules.specs.AllHosts.{AllHosts, terms}
+use Rattle.cache.specs.Oldest.{is_before, stamp_at}
+use Rattle.cache.specs.AllHosts.{AllHosts, terms}
 
 -- a pool: its limits, its hosts by index, and those that are queued for room in total, in order
 pub record PoolShown (S : Type 0) : Type 0 where

@@ -1,7 +1,7 @@
 -- What turns, and the room that is made for them, leave of all hosts.
 use Rattle.std.specs.Prelude.{◌≡◌, ℕ, ◌+◌, ◌<◌, false, length, None}
 use Rattle.bundle.specs.Lease.{is_unclaimed, ticket_want, KeepsStreams}
-use Rattle.pool_rules.specs.AllHosts.{AllHosts, total, kept, total_waiting}
+use Rattle.cache.specs.AllHosts.{AllHosts, total, kept, total_waiting}
 use Rattle.cache.specs.Pools.{PoolShown, host_at}
 
 -- one idle connection fewer is open, and who waits stays

@@ -3,8 +3,8 @@
 ghost use Rattle.std.specs.Prelude.{◌≡◌, ◌<◌, length, IfOk, IfErr, IfSome};
 ghost use Rattle.host_rules.specs.Calls.{refusal};
 ghost use Rattle.bundle.specs.Lease.{IsBookedHere};
-ghost use Rattle.pool_rules.specs.AllHosts.{total, with_room};
-ghost use Rattle.pool_rules.specs.Calls.{acquired, started};
+ghost use Rattle.cache.specs.AllHosts.{total, with_room};
+ghost use Rattle.cache.specs.Calls.{acquired, started};
 ghost use Rattle.cache.specs.Pools.{host_at, all_hosts};
 ghost use Rattle.cache.specs.PoolCalls.{AcquiresBy, EndsAcquire, IsReason};
 

@@ -7,14 +7,14 @@ ghost use Rattle.host_rules.specs.Calls.{is_queued};
 ghost use Rattle.host_rules.specs.Counts.{snapshot_of};
 ghost use Rattle.bundle.specs.Lease.{HasItsStreams, UnclaimedAreStarts};
 ghost use Rattle.bundle.specs.Seats.{gone};
-ghost use Rattle.pool_rules.specs.AllHosts.{IsLawful, oldest_of_all};
+ghost use Rattle.cache.specs.AllHosts.{IsLawful, oldest_of_all};
 ghost use Rattle.cache.specs.NewHosts.{AreNewHosts, NoneBooked};
 ghost use Rattle.cache.specs.Pools.{IsNewPool, AreInPlace, host_at, all_hosts};
 
+use crate::winner_tree::WinnerTree;
 use budget::{Limits, Lobby, Pass, PlainBudget, Refusal};
 use bundle::{Bundle, Did, Snapshot};
 use conn_log::{Log, Stamp};
-use oldest_stamp::WinnerTree;
 use std::alloc::Global;
 use std::marker::Model;
 

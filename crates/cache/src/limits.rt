@@ -2,8 +2,8 @@
 
 ghost use Rattle.std.specs.Prelude.{◌≡◌, ◌<◌, length, IfSome, IfErr, OnOk};
 ghost use Rattle.host_rules.specs.Calls.{limit_refusal};
-ghost use Rattle.pool_rules.specs.AllHosts.{with_log, log_at};
-ghost use Rattle.pool_rules.specs.Calls.{pruned, pruned_log, pruned_at, prune_count, limited};
+ghost use Rattle.cache.specs.AllHosts.{with_log, log_at};
+ghost use Rattle.cache.specs.Calls.{pruned, pruned_log, pruned_at, prune_count, limited};
 ghost use Rattle.cache.specs.Pools.{host_at, all_hosts};
 ghost use Rattle.cache.specs.PoolCalls.{IsCallAtAll, IsReason};
 

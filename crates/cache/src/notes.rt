@@ -2,10 +2,10 @@
 
 ghost use Rattle.std.specs.Prelude.{◌≡◌, ◌<◌, length, slice_set, if◌then◌else◌};
 ghost use Rattle.conn_log.specs.Fit.{oldest_stamp};
-ghost use Rattle.oldest_stamp.specs.Oldest.{earlier_of, is_since_before, stamp_at};
+ghost use Rattle.cache.specs.Oldest.{earlier_of, is_since_before, stamp_at};
 
+use crate::winner_tree::WinnerTree;
 use bundle::Bundle;
-use oldest_stamp::WinnerTree;
 
 /// Notes the oldest idle connection of a host at which one came back at that moment or later. Where
 /// the one noted is idle since before that, it is no later still.

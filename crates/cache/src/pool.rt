@@ -10,8 +10,8 @@ ghost use Rattle.cache_trait.specs.CacheCalls.{GivesBy, ClaimsBy};
 ghost use Rattle.cache_trait.specs.CacheCalls.CacheCall.{refuses, gives_back, abandons, withdraws};
 ghost use Rattle.cache_trait.specs.CacheCalls.CacheCall.{finds_strange_ticket};
 ghost use Rattle.cache_trait.specs.Homes.{Gives, Claims};
-ghost use Rattle.pool_rules.specs.AllHosts.{IsAtRest};
-ghost use Rattle.pool_rules.specs.Calls.{after_prune, prune_count, after_limit_of};
+ghost use Rattle.cache.specs.AllHosts.{IsAtRest};
+ghost use Rattle.cache.specs.Calls.{after_prune, prune_count, after_limit_of};
 ghost use Rattle.cache.specs.Pools.{AreInPlace, IsNewPool, IsMadeHere, IsTicketHere};
 ghost use Rattle.cache.specs.Pools.{host_at, all_hosts};
 ghost use Rattle.cache.specs.PoolCalls.{home_of, DidToPool, IsCallAtAll, IsReason};
@@ -42,7 +42,7 @@ pub struct Pool<S: Drop> {
 
 impl<S: Drop> Model for Pool<S> {
     ghost use Rattle.std.specs.Prelude.{◌≡◌, ◌<◌, [], ℕ, length};
-    ghost use Rattle.pool_rules.specs.AllHosts.{IsServed};
+    ghost use Rattle.cache.specs.AllHosts.{IsServed};
     ghost use Rattle.cache.specs.Pools.{PoolShown, all_hosts, host_at};
 
     ghost Value = { PoolShown S };

@@ -2,8 +2,9 @@
 
 use crate::checks::check_eq;
 use audit::Audit;
-use script_run::{SystemFiles, run_bytes, run_file};
+use script_engine::{run_bytes, run_file};
 use script_text::{FaultKind, ScriptFault};
+use streams::SystemFiles;
 
 #[test]
 fn a_script_in_memory_is_run(rt: HostRuntime) {

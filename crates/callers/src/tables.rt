@@ -2,14 +2,14 @@
 
 use crate::checks::check_eq;
 use budget::Lobby;
+use cache::oldest_of;
 use cache_report::count_part;
+use conn_key::PlaceTable;
 use conn_log::{Counts, Entry, Event, Log, Stamp, Want};
 use drawing::{Drawing, Point, Size, Style};
 use driver::ListedJobs;
-use histogram::Histogram;
 use host_state::State;
-use oldest_stamp::oldest_of;
-use site_table::SiteTable;
+use load_figures::Histogram;
 
 #[test]
 fn a_new_log_has_used_no_number(rt: HostRuntime) {
@@ -88,7 +88,7 @@ fn a_path_has_its_points(rt: HostRuntime) {
 
 #[test]
 fn a_new_table_has_no_site(rt: HostRuntime) {
-    let sites = SiteTable::new(rt.alloc(), 4);
+    let sites = PlaceTable::new(rt.alloc(), 4);
     check_eq(&rt, (sites.places(), sites.host(0)), (4, None));
     check_eq(&rt, ListedJobs::new(rt.alloc(), &[]).is_none(), true);
 }

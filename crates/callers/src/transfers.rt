@@ -10,11 +10,12 @@ use budget::{Limits, Refusal};
 use bundle::{Acquired, Lease};
 use cache::Pool;
 use cache_trait::Cache;
-use exchange::{Dial, Dialled, Place, Read, Ready, Slab, Turned, Wire, Written};
+use exchange::{Dial, Dialled, Place, Read, Ready, Turned, Wire, Written};
 use exchange_memory::{FakeCache, FixedClock, Halt, MemoryDial, MemoryWire, Returned};
 use std::alloc::AllocGlobal;
 use std::process::Abort;
 use std::time::Duration;
+use transfer_slab::Slab;
 
 #[test]
 fn a_wire_is_halted_and_cut(rt: HostRuntime) {

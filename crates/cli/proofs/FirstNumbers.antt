@@ -2,7 +2,7 @@
 use Rattle.std.proofs.Common.{◌≡◌, ◌∙◌, ◌+◌, ◌≤◌, ◌==◌, ℕ, zero, suc, List, [], ◌∷◌, cond, length, nat_lt, refl, sym, arith}
 use Rattle.std.proofs.lemmas.Bool.Decides.{nat_tests}
 use Rattle.std.proofs.lemmas.List.Sums.{sum_by-cons}
-use Rattle.job_counter.specs.Draws.{AreFirst, times}
+use Rattle.run_loop.specs.Draws.{AreFirst, times}
 
 times_more : (n x : ℕ) (xs : List ℕ) → times n (x ∷ xs) ≡ cond (n == x) 1 0 + times n xs
 times_more n x xs = sum_by-cons (λ m. cond (n == m) 1 0) x xs

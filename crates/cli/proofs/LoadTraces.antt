@@ -1,25 +1,17 @@
 -- Traces of loads: their hosts, and why they are not written whole.
 use Rattle.std.proofs.Common.{◌≡◌, ℕ, ◌+◌, List, [], ◌∷◌, ◌++◌, length, inr, arith}
-use Rattle.script_text.specs.declared.fault.FaultKind.{FaultKind}
-use Rattle.script_text.specs.declared.fault.FaultKind.TheVariants as kinds
-use Rattle.script_run.specs.Streams.{PutFails, Stream}
-use Rattle.log_trace.specs.Uses.{AreUsesOf}
-use Rattle.log_trace.specs.declared.host_trace.HostTrace.{HostTrace}
+use Rattle.streams.specs.declared.stream_fault.StreamFault.{StreamFault}
+use Rattle.streams.specs.declared.stream_fault.StreamFault.TheVariants as kinds
+use Rattle.streams.specs.Streams.{PutFails, Stream}
+use Rattle.trace_text.specs.HostUses.{AreUsesOf}
+use Rattle.trace_text.specs.declared.host_trace.HostTrace.{HostTrace}
 use Rattle.cli.specs.LoadTraces.{AreNewHosts, TraceFails, fault_of}
 
 -- why the bytes were not put is why the trace was not written
-pub put-failed : (old new : Stream) (bytes : List ℕ) (kind : FaultKind) → PutFails old new bytes kind → TraceFails bytes old new (fault_of kind)
+pub put-failed : (old new : Stream) (bytes : List ℕ) (kind : StreamFault) → PutFails old new bytes kind → TraceFails bytes old new (fault_of kind)
 put-failed old new bytes kinds.Memory fails = inr fails
 put-failed old new bytes kinds.Read fails = absurd fails
 put-failed old new bytes kinds.Write fails = fails
-put-failed old new bytes kinds.ScriptTooLong fails = absurd fails
-put-failed old new bytes kinds.LineTooLong fails = absurd fails
-put-failed old new bytes kinds.Unknown fails = absurd fails
-put-failed old new bytes kinds.Form fails = absurd fails
-put-failed old new bytes kinds.Place fails = absurd fails
-put-failed old new bytes kinds.BadLimits fails = absurd fails
-put-failed old new bytes kinds.BadSite fails = absurd fails
-put-failed old new bytes kinds.TooManySites fails = absurd fails
 
 -- one more host without entries
 pub new_hosts_more : (index : ℕ) (hosts : List HostTrace) (host : HostTrace) → AreNewHosts index hosts → host.host ≡ index + length hosts → AreUsesOf [] host.uses → AreNewHosts index (hosts ++ host ∷ [])

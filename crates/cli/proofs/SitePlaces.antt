@@ -12,7 +12,7 @@ use Rattle.exchange.specs.declared.job.Job.{Job}
 use Rattle.socket.specs.Hosts.{AddsHost, Names}
 use Rattle.cli.specs.LoadSites.{AreAddressesOf, AreAllBelow, AreLocated, AreSitesOf, IsListAt, IsListOf, IsPlaceOf, IsSiteOf, site_lines}
 use Rattle.command_line.specs.Numbering.{AreNumbered}
-use Rattle.log_trace.specs.Lines.{site_line}
+use Rattle.trace_text.specs.HostLines.{site_line}
 use Rattle.cli.specs.declared.loading.sites.LoadSite.{LoadSite}
 use Rattle.cli.specs.declared.loading.sites.Place.{Place}
 use Rattle.cli.specs.declared.loading.sites.Place.TheVariants.{Own, Known}

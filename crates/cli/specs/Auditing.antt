@@ -1,13 +1,13 @@
 -- What `audit` does, and its status.
 use Rattle.std.specs.Prelude.{◌≡◌, ℕ, Option, Some, None, Result, Ok, Err}
 use Rattle.clap.specs.Words.{Text}
-use Rattle.script_run.specs.Streams.{Stream}
-use Rattle.audit_run.specs.declared.stop.AuditStop.{AuditStop}
-use Rattle.audit_run.specs.declared.stop.AuditStop.TheVariants.{Line, Read, Memory, Write}
-use Rattle.audit_run.specs.declared.telling.Telling.{Telling}
-use Rattle.audit_run.specs.declared.telling.Verdict.{Verdict}
-use Rattle.audit_run.specs.declared.telling.Verdict.TheVariants.{Lawful, Broken}
-use Rattle.audit_run.specs.Audits.{AuditsFile, AuditsStream}
+use Rattle.streams.specs.Streams.{Stream}
+use Rattle.audit_stream.specs.declared.stop.AuditStop.{AuditStop}
+use Rattle.audit_stream.specs.declared.stop.AuditStop.TheVariants.{Line, Read, Memory, Write}
+use Rattle.audit_stream.specs.declared.telling.Telling.{Telling}
+use Rattle.audit_stream.specs.declared.telling.Verdict.{Verdict}
+use Rattle.audit_stream.specs.declared.telling.Verdict.TheVariants.{Lawful, Broken}
+use Rattle.audit_stream.specs.Audits.{AuditsFile, AuditsStream}
 
 -- what opening a file of that name may give: its stream, or none
 abbrev pub Opening : Type 1

@@ -11,7 +11,7 @@ use Rattle.crawl_input.specs.declared.options.UrlFile.{UrlFile}
 use Rattle.crawl_input.specs.declared.options.UrlFile.TheVariants as files
 use Rattle.exchange.specs.declared.job.Job.{Job}
 use Rattle.run_loop.specs.Taking.{JobResult}
-use Rattle.script_run.specs.Streams.{Stream}
+use Rattle.streams.specs.Streams.{Stream}
 use Rattle.cli.specs.Auditing.{Opening}
 use Rattle.command_line.specs.GetPlans.{plan_file}
 use Rattle.command_line.specs.Inputs.{asked_file}

@@ -8,7 +8,7 @@ use Rattle.crawl_input.specs.Given.{IsGivenAddress}
 use Rattle.crawl_input.specs.declared.resolved.Resolved.{Resolved}
 use Rattle.conn_key.specs.declared.target.Target.{Target}
 use Rattle.exchange.specs.declared.job.Job.{Job}
-use Rattle.log_trace.specs.Lines.{site_line}
+use Rattle.trace_text.specs.HostLines.{site_line}
 use Rattle.socket.specs.Hosts.{HasNoAddress, Names}
 use Rattle.cli.specs.declared.loading.sites.LoadSite.{LoadSite}
 use Rattle.cli.specs.declared.loading.sites.Place.{Place}

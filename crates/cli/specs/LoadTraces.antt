@@ -2,12 +2,12 @@
 use Rattle.std.specs.Prelude.{◌≡◌, ◌⊎◌, ◌+◌, ◌<◌, ◌++◌, ℕ, List, [], ◌∷◌, length, reverse, slice_index_or, slice_set, Result, Ok, Err}
 use Rattle.clap.specs.Words.{Text}
 use Rattle.script_text.specs.declared.command.Limits.{Limits}
-use Rattle.script_text.specs.declared.fault.FaultKind.{FaultKind}
-use Rattle.script_text.specs.declared.fault.FaultKind.TheVariants as kinds
-use Rattle.script_run.specs.Streams.{PutFails, Puts, Stream}
+use Rattle.streams.specs.declared.stream_fault.StreamFault.{StreamFault}
+use Rattle.streams.specs.declared.stream_fault.StreamFault.TheVariants as kinds
+use Rattle.streams.specs.Streams.{PutFails, Puts, Stream}
 use Rattle.conn_log.specs.declared.entry.Entry.{Entry}
-use Rattle.log_trace.specs.Uses.{AreUsesOf}
-use Rattle.log_trace.specs.declared.host_trace.HostTrace.{HostTrace}
+use Rattle.trace_text.specs.HostUses.{AreUsesOf}
+use Rattle.trace_text.specs.declared.host_trace.HostTrace.{HostTrace}
 use Rattle.command_line.specs.declared.load_limits.LoadOptions.{LoadOptions}
 use Rattle.cli.specs.declared.loading.tracing.LoadTrace.{LoadTrace}
 use Rattle.cli.specs.declared.loading.tracing.LoadTrace.TheVariants.{Open, Failed}
@@ -22,7 +22,7 @@ abbrev pub limits_said : LoadOptions → Limits
 limits_said options = record { host = options.host_limit; total = options.total; kept = options.connects }
 
 -- the fault of a load whose trace was not put: memory ran out, or a write failed
-abbrev pub fault_of : FaultKind → LoadFault
+abbrev pub fault_of : StreamFault → LoadFault
 fault_of kinds.Memory = Load (Run Memory)
 fault_of _ = Write
 

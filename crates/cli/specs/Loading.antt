@@ -1,8 +1,8 @@
 -- What a load does, and what is written of it.
 use Rattle.std.specs.Prelude.{◌≡◌, ℕ, codes, string_bytes, Result, Ok, Err}
 use Rattle.clap.specs.Words.{Text}
-use Rattle.script_text.specs.declared.fault.FaultKind.{FaultKind}
-use Rattle.script_run.specs.Streams.{Stream, Puts}
+use Rattle.streams.specs.declared.stream_fault.StreamFault.{StreamFault}
+use Rattle.streams.specs.Streams.{Stream, Puts}
 use Rattle.command_line.specs.declared.load_plan.LoadPlan.{LoadPlan}
 use Rattle.cli.specs.declared.loading.outcome.LoadOutcome.{LoadOutcome}
 use Rattle.cli.specs.declared.loading.failure.LoadFailure.{LoadFailure}
@@ -28,23 +28,23 @@ abbrev pub Loading : Type 1
 Loading = LoadPlan → Result LoadOutcome LoadFailure → Type 0
 
 -- 0 if a text was written whole, else 4
-abbrev pub written_status : {A : Type 0} → Result A FaultKind → ℕ
+abbrev pub written_status : {A : Type 0} → Result A StreamFault → ℕ
 written_status (Ok done) = 0
 written_status (Err kind) = 4
 
 -- a text is written, or a front of it if writing fails
 abbrev pub WritesText : Text → Stream → Stream → ℕ → Type 0
-WritesText text old new status = (result : Result (Unit {0}) FaultKind) × Puts old new text result × (status ≡ written_status result)
+WritesText text old new status = (result : Result (Unit {0}) StreamFault) × Puts old new text result × (status ≡ written_status result)
 
 -- the status of a load if its report was written whole, else 4
-abbrev pub outcome_status : {A : Type 0} → ℕ → Result A FaultKind → ℕ
+abbrev pub outcome_status : {A : Type 0} → ℕ → Result A StreamFault → ℕ
 outcome_status status (Ok done) = status
 outcome_status status (Err kind) = 4
 
 -- the report is written, or a front of it if writing fails; if there is none, nothing is
 abbrev pub WritesReport : Result LoadOutcome LoadFailure → Stream → Stream → ℕ → Type 0
 WritesReport (Ok outcome) old new status =
-    (result : Result (Unit {0}) FaultKind) × Puts old new (string_bytes outcome.report) result × (status ≡ outcome_status outcome.status result)
+    (result : Result (Unit {0}) StreamFault) × Puts old new (string_bytes outcome.report) result × (status ≡ outcome_status outcome.status result)
 WritesReport (Err fault) old new status = (new ≡ old) × (status ≡ 4)
 
 -- a load was carried out, and its report written

@@ -7,9 +7,9 @@ use Rattle.command_line.specs.declared.get_plan.CrawlPlan.{CrawlPlan}
 use Rattle.command_line.specs.declared.load_plan.LoadPlan.{LoadPlan}
 use Rattle.command_line.specs.declared.request.Request.{Request}
 use Rattle.command_line.specs.declared.request.Request.TheVariants as requests
-use Rattle.script_run.specs.Streams.{Stream}
-use Rattle.script_run.specs.Running.{RunsScript}
-use Rattle.script_run.specs.Files.{RunsFile}
+use Rattle.streams.specs.Streams.{Stream}
+use Rattle.script_engine.specs.Running.{RunsScript}
+use Rattle.script_engine.specs.RunFiles.{RunsFile}
 use Rattle.cli.specs.Loading.{WritesText}
 use Rattle.command_line.specs.Inputs.{name_of}
 use Rattle.cli.specs.Auditing.{AnswersAudit, Opening}

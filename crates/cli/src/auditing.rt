@@ -3,22 +3,22 @@
 ghost use Rattle.std.specs.Prelude.{◌≡◌, None};
 ghost use Rattle.cli.specs.Auditing.{AnswersAudit, audit_status, stop_status};
 ghost use Rattle.command_line.specs.Inputs.{name_of};
-ghost use Rattle.script_run.specs.Streams.{CanCount};
+ghost use Rattle.streams.specs.Streams.{CanCount};
 
 use crate::status::Status;
 use crate::system::System;
-use audit_run::{AuditStop, Verdict, audit_file, audit_stream};
-use command_line::{AuditWords, ScriptInput};
-use script_run::{ScriptFiles, Sink, Source};
+use audit_stream::{AuditStop, Verdict, audit_file, audit_stream};
+use command_line::{AuditWords, Input};
 use std::alloc::Global;
 use std::io::Write;
+use streams::{Files, Sink, Source};
 
 /// What standard input is called.
 const STANDARD: &str = "trace";
 
 /// Judges the trace that is read from there, writes the answer on `output`, tells on `errors` why
 /// there is no verdict, and answers the status.
-pub(crate) fn answer_audit<F: ScriptFiles, N, R: Source, W: Sink, E: Write>(
+pub(crate) fn answer_audit<F: Files, N, R: Source, W: Sink, E: Write>(
     alloc: Global,
     words: AuditWords,
     system: &mut System<F, N, R, W, E>,
@@ -35,12 +35,12 @@ pub(crate) fn answer_audit<F: ScriptFiles, N, R: Source, W: Sink, E: Write>(
         input: from,
     } = words;
     match from {
-        ScriptInput::Standard => {
+        Input::Standard => {
             let System { input, output, .. } = system;
             let audited = audit_stream(alloc, STANDARD, telling, input, output);
             status_told(&mut system.errors, audited)
         }
-        ScriptInput::File(name) => {
+        Input::File(name) => {
             let System { files, output, .. } = system;
             let audited = audit_file(alloc, files, name.as_str(), telling, output);
             status_told(&mut system.errors, audited)

@@ -4,7 +4,7 @@ ghost use Rattle.std.specs.Prelude.{◌≡◌, None, option_map, string_bytes};
 ghost use Rattle.client.specs.Crawling.{crawl_given};
 ghost use Rattle.cli.specs.Fetching.{IsKindOf, RunsCrawl, RunsGet, crawl_status};
 ghost use Rattle.command_line.specs.GetPlans.{plan_file};
-ghost use Rattle.script_run.specs.Streams.{CanCount};
+ghost use Rattle.streams.specs.Streams.{CanCount};
 
 pub(crate) mod system_names;
 pub(crate) mod system_network;
@@ -15,16 +15,15 @@ use crate::system::System;
 use client::{Crawl, CrawlFault, Crawled, Network};
 use command_line::CrawlPlan;
 use crawl_input::UrlFile;
-use script_run::{ScriptFiles, Sink, Source};
-use script_text::FaultKind;
 use std::alloc::Global;
 use std::io::{self, Write};
+use streams::{Files, Sink, Source, StreamFault};
 
 /// Carries out a plan: fetches the URLs among the words, and then the URLs in its file, which may
 /// be standard input, and writes a line as each transfer ends. Returns the status: 0 if each URL
 /// has a good response and its line, 2 if a line of the file is a bad URL, else 4. Reports faults
 /// on standard error.
-pub fn run_get<N: Network, F: ScriptFiles, R: Source, W: Sink, E: Write>(
+pub fn run_get<N: Network, F: Files, R: Source, W: Sink, E: Write>(
     alloc: Global,
     plan: CrawlPlan,
     system: &mut System<F, N, R, W, E>,
@@ -75,7 +74,7 @@ pub fn run_get<N: Network, F: ScriptFiles, R: Source, W: Sink, E: Write>(
 }
 
 // Returns the kind of the file of that name, if there is one.
-fn kind_of<F: ScriptFiles>(files: &F, file: &Option<String>) -> UrlFile
+fn kind_of<F: Files>(files: &F, file: &Option<String>) -> UrlFile
     ensures { IsKindOf (option_map string_bytes file.now) result }
 {
     match file {
@@ -108,7 +107,7 @@ fn run_crawl<N: Network, R: Source, W: Sink, E: Write>(
 {
     let alloc = crawl.alloc;
     let crawled = crawl.run(network, input, output);
-    if crawled.fault == Some(CrawlFault::Input(FaultKind::Read)) {
+    if crawled.fault == Some(CrawlFault::Input(StreamFault::Read)) {
         write_unread(alloc, errors, name, input.last_error());
     } else {
         write_end(errors, crawled);

@@ -2,7 +2,7 @@
 
 ghost use Rattle.std.specs.Prelude.{◌≡◌};
 ghost use Rattle.cli.specs.Loading.{RunsLoad};
-ghost use Rattle.script_run.specs.Streams.{CanCount};
+ghost use Rattle.streams.specs.Streams.{CanCount};
 
 pub(crate) mod failure;
 pub(crate) mod fault;
@@ -23,10 +23,9 @@ use command_line::LoadPlan;
 use failure::LoadFailure;
 use fault::{LoadFault, OUT_OF_MEMORY};
 use outcome::LoadOutcome;
-use script_run::Sink;
-use script_text::FaultKind;
 use std::alloc::Global;
 use std::io::Write;
+use streams::{Sink, StreamFault};
 
 /// Runs a load by `load`, and writes its report to `output` and its note, or the reason why there
 /// is no report, to `errors`. Returns the status: the load's if the report was written whole, else
@@ -48,7 +47,7 @@ pub fn run_load<L: FnOnce(Global, LoadPlan) -> Result<LoadOutcome, LoadFailure>,
             let _ = errors.write_all(outcome.note.as_bytes());
             match output.put(outcome.report.as_bytes()) {
                 Ok(()) => outcome.status,
-                Err(FaultKind::Memory) => failed(errors, OUT_OF_MEMORY.into()),
+                Err(StreamFault::Memory) => failed(errors, OUT_OF_MEMORY.into()),
                 Err(_) => failed(errors, LoadFault::Write.into()),
             }
         }

@@ -5,7 +5,7 @@ ghost use Rattle.cli.specs.Programs.{AnswersRequest, RunsProgram};
 ghost use Rattle.command_line.specs.CommandLine.{file_said, request_file, said, word_faults};
 ghost use Rattle.cli.specs.Fetching.{RunsGet};
 ghost use Rattle.cli.specs.Loading.{RunsLoad, WritesText};
-ghost use Rattle.script_run.specs.Streams.{CanCount};
+ghost use Rattle.streams.specs.Streams.{CanCount};
 
 use crate::auditing::answer_audit;
 use crate::get::run_get;
@@ -16,10 +16,10 @@ use crate::script::answer_script;
 use crate::status::Status;
 use crate::system::System;
 use client::Network;
-use command_line::{ArgsAlloc, LoadPlan, Request, ScriptInput, ScriptWords, Words};
-use script_run::{ScriptFiles, Sink, Source};
+use command_line::{ArgsAlloc, Input, LoadPlan, Request, ScriptWords, Words};
 use std::alloc::Global;
 use std::io::Write;
+use streams::{Files, Sink, Source};
 
 /// How a script on a terminal ends, for the person who writes it.
 const HOW_TO_END: &str = "Write a script, and end it with Ctrl-D on an empty line.\n";
@@ -41,7 +41,7 @@ const HOW_TO_END: &str = "Write a script, and end it with Ctrl-D on an empty lin
 /// script that is typed on a terminal.
 pub fn run_program<
     M: ArgsAlloc,
-    F: ScriptFiles,
+    F: Files,
     N: Network,
     L: FnOnce(Global, LoadPlan) -> Result<LoadOutcome, LoadFailure> + Drop,
     R: Source,
@@ -69,7 +69,7 @@ fn hint_for(request: &Request, is_typed: bool) -> &'static str {
     match request {
         Request::Script(
             ScriptWords {
-                input: ScriptInput::Standard,
+                input: Input::Standard,
                 ..
             },
         ) if is_typed => HOW_TO_END,
@@ -80,7 +80,7 @@ fn hint_for(request: &Request, is_typed: bool) -> &'static str {
 /// Answers a request, and returns the status: runs the script, fetches the URLs, carries out the
 /// load, judges the trace, prints help or the version, or reports why nothing is done.
 fn answer_request<
-    F: ScriptFiles,
+    F: Files,
     N: Network,
     L: FnOnce(Global, LoadPlan) -> Result<LoadOutcome, LoadFailure> + Drop,
     R: Source,

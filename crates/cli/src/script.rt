@@ -4,24 +4,25 @@ ghost use Rattle.std.specs.Prelude.{◌≡◌, None, option_map, string_bytes};
 ghost use Rattle.cli.specs.Programs.{AnswersDrawn, AnswersPictured, AnswersScript};
 ghost use Rattle.cli.specs.Programs.{status_of};
 ghost use Rattle.command_line.specs.Inputs.{name_of};
-ghost use Rattle.script_run.specs.Streams.{CanCount};
+ghost use Rattle.streams.specs.Streams.{CanCount};
 
 mod picturing;
 
 use crate::file_fault::{FileAction, write_file_fault};
 use crate::status::Status;
 use crate::system::System;
-use command_line::{ScriptInput, ScriptWords};
+use command_line::{Input, ScriptWords};
 use picturing::Painter;
-use script_run::{ScriptFiles, Sink, Source, Unseen, Viewer, run_file_for, run_script_for};
-use script_text::{FaultKind, ScriptFault};
+use script_engine::{Unseen, Viewer, run_file_for, run_script_for};
+use script_text::ScriptFault;
 use std::alloc::Global;
 use std::io::Write;
+use streams::{Files, Sink, Source, StreamFault};
 
 /// Runs the script that is read from there, tells of its fault on `errors`, and answers the status.
 /// If the words name a file for the picture, it is made before, and gets the picture after the
 /// script; if that fails, it is told, and the status is 4.
-pub(crate) fn answer_script<F: ScriptFiles, N, R: Source, W: Sink, E: Write>(
+pub(crate) fn answer_script<F: Files, N, R: Source, W: Sink, E: Write>(
     alloc: Global,
     words: ScriptWords,
     system: &mut System<F, N, R, W, E>,
@@ -47,11 +48,11 @@ pub(crate) fn answer_script<F: ScriptFiles, N, R: Source, W: Sink, E: Write>(
 
 /// Runs the script that is read from there, draws its picture into the file of that name, tells
 /// what goes wrong on `errors`, and answers the status.
-fn run_pictured<F: ScriptFiles, N, R: Source, W: Sink, E: Write>(
+fn run_pictured<F: Files, N, R: Source, W: Sink, E: Write>(
     alloc: Global,
     is_traced: bool,
     name: &str,
-    from: ScriptInput,
+    from: Input,
     system: &mut System<F, N, R, W, E>,
 ) -> u8
     requires input { CanCount (R.source system.old.input) }
@@ -74,7 +75,7 @@ fn run_pictured<F: ScriptFiles, N, R: Source, W: Sink, E: Write>(
     let errors = &mut system.errors;
     match painter.write_to(&mut file) {
         Ok(()) => status,
-        Err(FaultKind::Memory) => {
+        Err(StreamFault::Memory) => {
             let _ = writeln!(errors, "run: out of memory");
             Status::Failed.code()
         }
@@ -87,10 +88,10 @@ fn run_pictured<F: ScriptFiles, N, R: Source, W: Sink, E: Write>(
 
 /// Runs the script that is read from there, which that viewer sees, tells of its fault on `errors`,
 /// and answers the status.
-fn run_seen<F: ScriptFiles, N, R: Source, W: Sink, E: Write, V: Viewer>(
+fn run_seen<F: Files, N, R: Source, W: Sink, E: Write, V: Viewer>(
     alloc: Global,
     is_traced: bool,
-    from: ScriptInput,
+    from: Input,
     system: &mut System<F, N, R, W, E>,
     viewer: &mut V,
 ) -> u8
@@ -102,12 +103,12 @@ fn run_seen<F: ScriptFiles, N, R: Source, W: Sink, E: Write, V: Viewer>(
     ensures unopened { name_of from ≡ None → system.new.files ≡ system.old.files }
 {
     match from {
-        ScriptInput::Standard => {
+        Input::Standard => {
             let System { input, output, .. } = system;
             let ran = run_script_for(alloc, is_traced, input, output, viewer);
             status_told(&mut system.errors, ran)
         }
-        ScriptInput::File(name) => {
+        Input::File(name) => {
             let System { files, output, .. } = system;
             let ran = run_file_for(alloc, is_traced, files, name.as_str(), output, viewer);
             status_told(&mut system.errors, ran)

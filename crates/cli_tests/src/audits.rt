@@ -1,12 +1,12 @@
 //! Audits of traces that come piece by piece, and answers that cannot be written.
 
 use crate::running::{ROW, Row, Text, check_stopped};
-use audit_run::{AuditStop, Telling, Verdict, audit_stream};
-use script_run::FailureCounted;
+use audit_stream::{AuditStop, Telling, Verdict, audit_stream};
 use std::alloc::{AllocError, Global};
 use std::fmt::Write;
 use std::io::Read;
 use std::{io, str};
+use streams::FailureCounted;
 
 /// A connection that is reused too late.
 pub const BROKEN: &str = "limits 2 0 4\nsite http://a.test/\nget 1 0 0 at 0\n\

@@ -8,7 +8,6 @@ use client::{LookUps, Network, NetworkFault};
 use command_line::CountedArgsAlloc;
 use crawl_input::CrawlOptions;
 use loopback_server::Server;
-use script_run::SystemFiles;
 use std::alloc::{AllocError, AllocGlobal, Global};
 use std::fmt::Write;
 use std::net::{IpAddr, Ipv4Addr, SocketAddr, TcpListener};
@@ -18,6 +17,7 @@ use std::sync::Wait;
 use std::sync::atomic::{AtomicBool, Ordering};
 use std::thread::{Builder, Threads, scope_env};
 use std::{io, str, thread};
+use streams::SystemFiles;
 
 /// How many URLs there are.
 const URLS: u64 = 60;

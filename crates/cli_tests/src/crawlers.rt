@@ -5,9 +5,9 @@ ghost use Rattle.client.specs.Results.{TakesAll};
 
 use crate::networks::FakeFetcher;
 use client::{Crawler, NetworkFault, Signals};
+use conn_key::Places;
 use exchange::{Done, Fault, Job, Phases, Reason};
 use run_loop::{Results, Span, Until};
-use site_table::Places;
 use std::alloc::{AllocError, Global};
 use std::net::SocketAddr;
 

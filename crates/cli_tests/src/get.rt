@@ -8,10 +8,9 @@ use client::{Crawl, CrawlFault, Crawled, NetworkFault, Tally};
 use command_line::Words;
 use crawl_input::{CrawlFlags, CrawlOptions, UrlFile};
 use persistence::Method;
-use script_run::FailureCounted;
-use script_text::FaultKind;
 use std::alloc::{AllocError, Global};
 use std::sync::atomic::Ordering;
+use streams::{FailureCounted, StreamFault};
 
 // The words of a get of so many URLs.
 fn many_urls(alloc: Global, count: u32) -> Result<Words, AllocError> {
@@ -321,7 +320,7 @@ fn a_read_that_fails_in_the_middle(rt: HostRuntime) {
             lines: 2,
             failed: 0,
         },
-        fault: Some(CrawlFault::Input(FaultKind::Read)),
+        fault: Some(CrawlFault::Input(StreamFault::Read)),
     };
     check_eq(&rt, crawled, expected);
     let lines = "200 2 new http://127.0.0.1/f\n200 3 reused http://127.0.0.1/gg\n";

@@ -1,7 +1,7 @@
 //! The longest script, the most sites, and how faults are printed.
 
 use crate::checks::check_eq;
-use script_run::run_bytes;
+use script_engine::run_bytes;
 use script_text::{FaultKind, ScriptFault};
 use std::alloc::{AllocError, Global};
 

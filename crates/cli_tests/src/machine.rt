@@ -1,8 +1,7 @@
 //! A machine that has no memory for one of its commands.
 
 use crate::streams::{REUSE, REUSED};
-use script_engine::{Engine, Machine};
-use script_run::{SCRIPT_LIMIT, run_lines};
+use script_engine::{Engine, Machine, SCRIPT_LIMIT, run_lines};
 use script_text::{Command, FaultKind, ScriptFault};
 use std::alloc::Global;
 

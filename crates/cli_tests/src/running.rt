@@ -1,7 +1,7 @@
 //! Runs the program, and compares what it writes and answers with a row.
 
 ghost use Rattle.std.specs.Prelude.{⊤};
-ghost use Rattle.script_run.specs.Streams.{CanCount};
+ghost use Rattle.streams.specs.Streams.{CanCount};
 
 use crate::audits::BROKEN;
 use crate::loads::FakeLoader;
@@ -10,11 +10,11 @@ use crate::streams::Expecting;
 use cli::{LoadFault, System, run_program};
 use client::NetworkFault;
 use command_line::{CountedArgsAlloc, Words};
-use script_run::{FailureCounted, ScriptFiles, Sink};
 use std::alloc::{AllocError, AllocGlobal, Global};
 use std::io::{self, Write};
 use std::process::Abort;
 use std::str;
+use streams::{FailureCounted, Files, Sink};
 
 /// A text, or what it begins with.
 #[derive(Clone, Copy)]
@@ -63,7 +63,7 @@ const URLS: &str = "http://127.0.0.1/f\nhttp://127.0.0.1/gg\n";
 #[derive(Drop)]
 pub struct FilesInMemory;
 
-impl ScriptFiles for FilesInMemory {
+impl Files for FilesInMemory {
     type File = &'static [u8];
 
     type Made = FailureCounted<FakeFile>;

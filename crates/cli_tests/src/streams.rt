@@ -1,10 +1,11 @@
 //! What readers and writers leave that fail.
 
-use script_run::{FailureCounted, run_script};
+use script_engine::run_script;
 use script_text::{FaultKind, ScriptFault};
 use std::alloc::Global;
 use std::io;
 use std::io::{Read, Write};
+use streams::FailureCounted;
 
 /// A script of a connection that is used again and then abandoned, and its transcript.
 pub const REUSE: &str =

@@ -12,8 +12,8 @@ use Rattle.std.proofs.lemmas.List.Sorted.{All-permutation, IsPermutation-map, Is
 use Rattle.std.proofs.lemmas.List.Sums.{sum_by_push}
 use Rattle.exchange.specs.declared.job.Job.{Job}
 use Rattle.run_loop.specs.Taking.{AllTaken, JobResult}
-use Rattle.script_run.specs.Streams.{Stream}
-use Rattle.script_text.specs.declared.fault.FaultKind.{FaultKind}
+use Rattle.streams.specs.Streams.{Stream}
+use Rattle.streams.specs.declared.stream_fault.StreamFault.{StreamFault}
 use Rattle.client.specs.Crawling.{AreAccounted}
 use Rattle.client.specs.Lines.{Text}
 use Rattle.client.specs.Steps.{HasJob, IsEndOf, IsOfResult, IsResultOf, want_of}
@@ -24,7 +24,7 @@ use Rattle.crawl_input.specs.declared.options.CrawlFlags.{CrawlFlags}
 use Rattle.crawl_input.specs.declared.options.CrawlOptions.{CrawlOptions}
 
 -- one more line is written, or not whole
-pub lines_more : (lines : List Written) (line : Written) (first mid new : Stream) (fault : Option FaultKind) → AreWhole lines first mid → PutsAs mid new line.text fault
+pub lines_more : (lines : List Written) (line : Written) (first mid new : Stream) (fault : Option StreamFault) → AreWhole lines first mid → PutsAs mid new line.text fault
     → AreWritten (lines ++ line ∷ []) first new fault
 lines_more lines line first mid new None whole puts = (
   subst (λ (text : List ℕ). Appends first.bytes new.bytes text) (flat_map_more text_of [] lines line)

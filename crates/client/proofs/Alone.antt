@@ -6,12 +6,12 @@ use Rattle.bundle.specs.Seats.{Tables}
 use Rattle.cache_trait.specs.CacheCalls.{CacheCall}
 use Rattle.exchange.specs.declared.done.Done.{Done}
 use Rattle.exchange.specs.declared.job.Job.{Job}
-use Rattle.exchange.specs.Slabs.{AreKept, IsKept, transfers_in}
+use Rattle.transfer_slab.specs.Slabs.{AreKept, IsKept, transfers_in}
 use Rattle.exchange.specs.Transfers.{TransferShown}
 use Rattle.exchange.specs.Worlds.{World}
 use Rattle.run_loop.specs.Going.{IsRunFrom, RunsOn, RunsToEnd, may_stop_at, point, rules_of}
 use Rattle.run_loop.specs.Moments.{AreReadings, TakesTimed}
-use Rattle.job_counter.specs.Draws.{times}
+use Rattle.run_loop.specs.Draws.{times}
 use Rattle.run_loop.specs.Running.{AreUnderWay, IsRunning, IsUnderWay, numbers_under_way}
 use Rattle.run_loop.specs.Taking.{ends_of}
 use Rattle.run_loop.specs.declared.results.Span.{Span}

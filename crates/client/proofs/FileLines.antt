@@ -12,7 +12,7 @@ use Rattle.std.specs.Io.KnownBytes.{Consumes, IsAtEnd, Keeps}
 use Rattle.std.specs.List.{slice_split, onto_first, position_or_len}
 use Rattle.std.specs.Str.Lines.{strip_carriage_return}
 use Rattle.std.specs.Str.Lossy.{utf8_lossy}
-use Rattle.script_text.proofs.Splits.{parts_after, slice_split-parts}
+use Rattle.streams.proofs.Splits.{parts_after, slice_split-parts}
 use Rattle.client.specs.Lines.{Text}
 use Rattle.client.specs.FileLines.{AreFirst, GivesUrls, HasNoEnd, HasNoLine, IsNextLine, KnowsEnd, LinesShown, ReadsFile, TakesLine, ends_line, is_skipped, line_front, nothing_read, urls_in, urls_left, urls_of_front, urls_on, urls_returned}
 use Rattle.client.specs.declared.crawl.lines.Line.{Line}

@@ -9,9 +9,9 @@ use Rattle.std.proofs.lemmas.List.Elements.{All-cons, All-nil}
 use Rattle.std.proofs.lemmas.List.Sorted.{IsPermutation-append_left, IsPermutation-refl}
 use Rattle.exchange.specs.declared.job.Job.{Job}
 use Rattle.run_loop.specs.Taking.{AllTaken, JobResult}
-use Rattle.script_run.specs.Streams.{Stream}
-use Rattle.script_text.specs.declared.fault.FaultKind.{FaultKind}
-use Rattle.script_text.specs.declared.fault.FaultKind.TheVariants.{Memory, Read, Write, ScriptTooLong, LineTooLong, Unknown, Form, Place, BadLimits, BadSite, TooManySites}
+use Rattle.streams.specs.Streams.{Stream}
+use Rattle.streams.specs.declared.stream_fault.StreamFault.{StreamFault}
+use Rattle.streams.specs.declared.stream_fault.StreamFault.TheVariants.{Memory, Read, Write}
 use Rattle.client.specs.Crawling.{CrawlGiven, Crawls, HasFetched, IfEnd, IsAt, IsAtBadUrl, IsEmptied, IsOver, IsSomewhere, LeavesUrls, fault_in, jobs_begun}
 use Rattle.client.specs.Faults.{CanEnd, IsStepFault, line_fault}
 use Rattle.client.specs.FileLines.{urls_in}
@@ -86,14 +86,6 @@ step_leaves : (fault : CrawlFault) (queue : QueueShown) (in_flight : List InFlig
 step_leaves (faults.Input Memory) queue in_flight is = tt
 step_leaves (faults.Input Read) queue in_flight is = absurd is
 step_leaves (faults.Input Write) queue in_flight is = tt
-step_leaves (faults.Input ScriptTooLong) queue in_flight is = tt
-step_leaves (faults.Input LineTooLong) queue in_flight is = tt
-step_leaves (faults.Input Unknown) queue in_flight is = tt
-step_leaves (faults.Input Form) queue in_flight is = tt
-step_leaves (faults.Input Place) queue in_flight is = tt
-step_leaves (faults.Input BadLimits) queue in_flight is = tt
-step_leaves (faults.Input BadSite) queue in_flight is = tt
-step_leaves (faults.Input TooManySites) queue in_flight is = tt
 step_leaves (faults.Output kind) queue in_flight is = absurd is
 step_leaves (faults.Network fault) queue in_flight is = tt
 step_leaves (faults.BadUrl number) queue in_flight is = absurd is
@@ -141,7 +133,7 @@ no_jobs options (job ∷ jobs) old (one ∷ begun) new is zip none =
     absurd (omega (arith, ap (λ (l : List InFlight). length l) (sym is ∙ none), length-append old (one ∷ begun)))
 
 -- a fault is not none
-pub fault_is : (fault : Option FaultKind) (P : Type 0) → is_some fault ≡ true → fault ≡ None → P
+pub fault_is : (fault : Option StreamFault) (P : Type 0) → is_some fault ≡ true → fault ≡ None → P
 fault_is fault P some none = absurd (search (rules, some, none))
 
 not_skipped : (skip : Bool) → not skip ≡ true → skip ≡ false

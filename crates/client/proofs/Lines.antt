@@ -5,37 +5,29 @@ use Rattle.std.specs.Global.{Global}
 use Rattle.std.specs.Io.KnownBytes.{Appends}
 use Rattle.std.proofs.KnownBytes.{Appends-nil}
 use Rattle.run_loop.specs.Taking.{JobResult}
-use Rattle.script_run.specs.Streams.{SameFailures, Stream}
-use Rattle.script_text.specs.declared.fault.FaultKind.{FaultKind}
-use Rattle.script_text.specs.declared.fault.FaultKind.TheVariants.{Memory, Read, Write, ScriptTooLong, LineTooLong, Unknown, Form, Place, BadLimits, BadSite, TooManySites}
+use Rattle.streams.specs.Streams.{SameFailures, Stream}
+use Rattle.streams.specs.declared.stream_fault.StreamFault.{StreamFault}
+use Rattle.streams.specs.declared.stream_fault.StreamFault.TheVariants.{Memory, Read, Write}
 use Rattle.client.specs.Lines.{Text, fetched_as, line_of}
 use Rattle.client.specs.Written.{Counts, HasNoTransfer, OutputShown, PutsAs, PutsText, TakesResult, WritesBad, WritesText, done_failed}
 use Rattle.client.specs.declared.crawl.in_flight.InFlight.{InFlight}
 
 -- nothing failed
-pub no_fault : (fault : Option FaultKind) → is_some fault ≡ false → fault ≡ None
+pub no_fault : (fault : Option StreamFault) → is_some fault ≡ false → fault ≡ None
 no_fault None none = refl
 no_fault (Some kind) none = absurd (search (rules, none))
 
 -- a line that there is no memory for is not written
-lost : (text : Text) (old new : Stream) (fault : Option FaultKind) → new ≡ old → fault ≡ Some Memory → PutsAs old new text fault
+lost : (text : Text) (old new : Stream) (fault : Option StreamFault) → new ≡ old → fault ≡ Some Memory → PutsAs old new text fault
 lost text old new fault same is =
     subst (PutsAs old new text) (sym is) (subst (λ (s : Stream). Appends old.bytes s.bytes [] × SameFailures old s) (sym same) (Appends-nil old.bytes, refl))
 
 -- a line is written as its text is put
-put_as : (text : Text) (old new : Stream) (fault : Option FaultKind) → PutsText old new text fault → PutsAs old new text fault
+put_as : (text : Text) (old new : Stream) (fault : Option StreamFault) → PutsText old new text fault → PutsAs old new text fault
 put_as text old new None puts = puts
 put_as text old new (Some Memory) fails = (fails.0, fails.1)
 put_as text old new (Some Write) fails = fails
 put_as text old new (Some Read) fails = fails
-put_as text old new (Some ScriptTooLong) fails = fails
-put_as text old new (Some LineTooLong) fails = fails
-put_as text old new (Some Unknown) fails = fails
-put_as text old new (Some Form) fails = fails
-put_as text old new (Some Place) fails = fails
-put_as text old new (Some BadLimits) fails = fails
-put_as text old new (Some BadSite) fails = fails
-put_as text old new (Some TooManySites) fails = fails
 
 -- the line of a bad URL is written
 pub bad_written : {E : Type 0} (line : Result (String Global) E) (url : Text) (old new : OutputShown) → old.fault ≡ None → WritesText line old.stream new.stream new.fault → Counts true old.tally new.tally
@@ -59,7 +51,7 @@ bad_written (Err error) url old new whole writes counts flags in_flight name = r
 pub ignored_after_fault : (result : JobResult) (shown : OutputShown) → is_some shown.fault ≡ true → TakesResult result shown shown
 ignored_after_fault result shown failed = inl (record { same = refl; reason = inl (λ none. is_no_fault shown.fault failed none) })
   where
-    is_no_fault : (fault : Option FaultKind) → is_some fault ≡ true → fault ≡ None → ⊥
+    is_no_fault : (fault : Option StreamFault) → is_some fault ≡ true → fault ≡ None → ⊥
     is_no_fault fault failed none = search (rules, failed, none)
 
 -- a result is ignored if its transfer is not in flight

@@ -6,9 +6,9 @@ use Rattle.std.specs.List.{All}
 use Rattle.std.proofs.lemmas.List.{get_or-set_same, length-set}
 use Rattle.std.proofs.lemmas.List.Elements.{All-more, All-push, All-weaker}
 use Rattle.std.proofs.lemmas.Option.{slice_get_cases, unwrap_or-slice_get}
-use Rattle.site_table.specs.Giving.{Gives}
-use Rattle.site_table.specs.Hosts.{Hosts}
-use Rattle.site_table.proofs.GivingLemmas.{only_unused_change}
+use Rattle.conn_key.specs.Giving.{Gives}
+use Rattle.conn_key.specs.Hosts.{Hosts}
+use Rattle.conn_key.proofs.GivingLemmas.{only_unused_change}
 use Rattle.client.specs.Hosts.{AreInUse, GrowsOrStays, IsInUse, KeepsInUse, is_in_use}
 use Rattle.client.specs.declared.crawl.in_flight.InFlight.{InFlight}
 

@@ -9,7 +9,7 @@ use Rattle.std.proofs.lemmas.List.Elements.{All-append, All-cons, All-nil, All-p
 use Rattle.std.proofs.lemmas.List.Sorted.{IsPermutation-append_left, IsPermutation-append_right, IsPermutation-middle, IsPermutation-pop_more, IsPermutation-refl, IsPermutation-trans}
 use Rattle.exchange.specs.declared.job.Job.{Job}
 use Rattle.run_loop.specs.Taking.{AllTaken, JobResult}
-use Rattle.script_run.specs.Streams.{Stream}
+use Rattle.streams.specs.Streams.{Stream}
 use Rattle.client.specs.Crawling.{AreAccounted, CrawlGiven, IsAt, queue_given}
 use Rattle.client.specs.FileLines.{nothing_read}
 use Rattle.client.specs.Lines.{Text}

@@ -7,8 +7,8 @@ use Rattle.std.proofs.lemmas.List.{length-append, map-append, reverse-append}
 use Rattle.std.proofs.lemmas.List.Sorted.{IsPermutation-map, IsPermutation-middle, IsPermutation-pop_more, IsPermutation-refl, IsPermutation-remove}
 use Rattle.conn_log.specs.declared.entry.Want.{Want}
 use Rattle.exchange.specs.declared.job.Job.{Job}
-use Rattle.site_table.specs.Hosts.{Hosts}
-use Rattle.script_text.specs.declared.fault.FaultKind.TheVariants.{Memory, Read, Write, ScriptTooLong, LineTooLong, Unknown, Form, Place, BadLimits, BadSite, TooManySites}
+use Rattle.conn_key.specs.Hosts.{Hosts}
+use Rattle.streams.specs.declared.stream_fault.StreamFault.TheVariants.{Memory, Read, Write}
 use Rattle.client.specs.Crawling.{IsAtBadUrl, LeavesUrls}
 use Rattle.client.specs.Hosts.{AreInUse, KeepsInUse, is_in_use}
 use Rattle.crawl_input.specs.Given.{url_text, url_texts}
@@ -125,14 +125,6 @@ pub leaves_none : (fault : CrawlFault) (queue : QueueShown) → ((line : ℕ) �
 leaves_none (faults.Input Memory) queue other left queued = tt
 leaves_none (faults.Input Read) queue other left queued = record { none_left = left; none_queued = queued; none_in_flight = refl }
 leaves_none (faults.Input Write) queue other left queued = tt
-leaves_none (faults.Input ScriptTooLong) queue other left queued = tt
-leaves_none (faults.Input LineTooLong) queue other left queued = tt
-leaves_none (faults.Input Unknown) queue other left queued = tt
-leaves_none (faults.Input Form) queue other left queued = tt
-leaves_none (faults.Input Place) queue other left queued = tt
-leaves_none (faults.Input BadLimits) queue other left queued = tt
-leaves_none (faults.Input BadSite) queue other left queued = tt
-leaves_none (faults.Input TooManySites) queue other left queued = tt
 leaves_none (faults.Output kind) queue other left queued = tt
 leaves_none (faults.Network fault) queue other left queued = tt
 leaves_none (faults.BadUrl line) queue other left queued = absurd (other line refl)

@@ -3,7 +3,7 @@ use Rattle.std.specs.Prelude.{◌≡◌, ⊤, ℕ, List, [], Option}
 use Rattle.bundle.specs.Seats.{Tables}
 use Rattle.cache_trait.specs.CacheCalls.{CacheCall}
 use Rattle.exchange.specs.declared.job.Job.{Job}
-use Rattle.exchange.specs.Slabs.{AreKept, transfers_in}
+use Rattle.transfer_slab.specs.Slabs.{AreKept, transfers_in}
 use Rattle.exchange.specs.Transfers.{TransferShown}
 use Rattle.exchange.specs.Worlds.{World}
 use Rattle.run_loop.specs.Moments.{AreReadings}

@@ -5,14 +5,14 @@ use Rattle.std.specs.List.Sorted.{IsPermutation}
 use Rattle.conn_log.specs.Sound.{AreDistinct}
 use Rattle.exchange.specs.declared.job.Job.{Job}
 use Rattle.run_loop.specs.Taking.{JobResult}
-use Rattle.script_run.specs.Streams.{Stream}
+use Rattle.streams.specs.Streams.{Stream}
 use Rattle.client.specs.Faults.{CanEnd, line_fault}
 use Rattle.client.specs.FileLines.{AreFirst, HasNoLine, ReadsFile, nothing_read, urls_in}
 use Rattle.crawl_input.specs.Given.{url_texts}
 use Rattle.client.specs.Lines.{Text}
 use Rattle.client.specs.Reading.{QueueShown}
 use Rattle.client.specs.Results.{AreNumbered, job_numbers}
-use Rattle.script_text.specs.declared.fault.FaultKind.TheVariants.{Read}
+use Rattle.streams.specs.declared.stream_fault.StreamFault.TheVariants.{Read}
 use Rattle.crawl_input.specs.Urls.{IsBadText}
 use Rattle.client.specs.Steps.{HasCrawled, HasJob, IsOfResult, HasRun}
 use Rattle.client.specs.Written.{Written, OutputShown, AreWritten, tally_of, urls_in_flight, urls_written}

@@ -1,13 +1,13 @@
 -- Faults of crawls.
 use Rattle.std.specs.Prelude.{◌≡◌, Bool, true, false, not, Option, Some, None}
-use Rattle.script_text.specs.declared.fault.FaultKind.{FaultKind}
-use Rattle.script_text.specs.declared.fault.FaultKind.TheVariants.{Read}
+use Rattle.streams.specs.declared.stream_fault.StreamFault.{StreamFault}
+use Rattle.streams.specs.declared.stream_fault.StreamFault.TheVariants.{Read}
 use Rattle.client.specs.declared.crawl.fault.CrawlFault.{CrawlFault}
 use Rattle.client.specs.declared.crawl.fault.CrawlFault.TheVariants as faults
 use Rattle.crawl_input.specs.declared.options.CrawlOptions.{CrawlOptions}
 
 -- the fault of a line that could not be written, if the fault is of one
-abbrev pub line_fault : Option CrawlFault → Option FaultKind
+abbrev pub line_fault : Option CrawlFault → Option StreamFault
 line_fault (Some (faults.Output kind)) = Some kind
 line_fault _ = None
 

@@ -4,7 +4,7 @@ use Rattle.std.specs.Io.KnownBytes.{IsAtEnd}
 use Rattle.std.specs.List.{All, slice_split}
 use Rattle.std.specs.Str.Lines.{strip_carriage_return}
 use Rattle.std.specs.Str.Lossy.{utf8_lossy}
-use Rattle.script_run.specs.Streams.{Stream, SameFailures, OneMoreFailed}
+use Rattle.streams.specs.Streams.{Stream, SameFailures, OneMoreFailed}
 use Rattle.client.specs.Lines.{Text}
 use Rattle.client.specs.declared.crawl.lines.Line.{Line}
 use Rattle.client.specs.declared.crawl.lines.Line.TheVariants.{Url, Bad, Skipped, Unread, Over}

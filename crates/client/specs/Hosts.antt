@@ -1,7 +1,7 @@
 -- The places of the hosts of a crawl.
 use Rattle.std.specs.Prelude.{◌≡◌, ◌⊎◌, ◌<◌, ◌++◌, ◌∷◌, [], ℕ, Bool, true, false, List, length, slice_get, unwrap_or, Some}
 use Rattle.std.specs.List.{All}
-use Rattle.site_table.specs.Hosts.{Hosts}
+use Rattle.conn_key.specs.Hosts.{Hosts}
 use Rattle.client.specs.declared.crawl.in_flight.InFlight.{InFlight}
 
 -- a transfer is in flight at a place, or about to begin there

@@ -1,8 +1,8 @@
 -- The queue of a crawl: URLs that are read into it, and taken out of it.
 use Rattle.std.specs.Prelude.{◌≡◌, ◌⊎◌, ◌++◌, ◌∷◌, [], ℕ, List, map, reverse, string_bytes, Option, Some, Bool, true}
 use Rattle.std.specs.List.Sorted.{IsPermutation}
-use Rattle.script_run.specs.Streams.{Stream, OneMoreFailed}
-use Rattle.script_text.specs.declared.fault.FaultKind.TheVariants.{Read}
+use Rattle.streams.specs.Streams.{Stream, OneMoreFailed}
+use Rattle.streams.specs.declared.stream_fault.StreamFault.TheVariants.{Read}
 use Rattle.client.specs.FileLines.{KnowsEnd, LinesShown, ReadsFile, lines_shown}
 use Rattle.crawl_input.specs.Given.{url_texts}
 use Rattle.client.specs.Lines.{Text}

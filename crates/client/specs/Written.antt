@@ -8,9 +8,9 @@ use Rattle.exchange.specs.declared.done.Done.{Done}
 use Rattle.exchange.specs.declared.done.Done.TheVariants.{Good, Bad}
 use Rattle.run_loop.specs.Taking.{JobResult, job_result}
 use Rattle.run_loop.specs.declared.results.Span.{Span}
-use Rattle.script_run.specs.Streams.{Stream, PutFails, PutsFront, SameFailures, OneMoreFailed}
-use Rattle.script_text.specs.declared.fault.FaultKind.{FaultKind}
-use Rattle.script_text.specs.declared.fault.FaultKind.TheVariants.{Memory, Write}
+use Rattle.streams.specs.Streams.{Stream, PutFails, PutsFront, SameFailures, OneMoreFailed}
+use Rattle.streams.specs.declared.stream_fault.StreamFault.{StreamFault}
+use Rattle.streams.specs.declared.stream_fault.StreamFault.TheVariants.{Memory, Write}
 use Rattle.client.specs.Lines.{Text, fetched_as, line_of}
 use Rattle.client.specs.Results.{TakesAll}
 use Rattle.client.specs.declared.crawl.in_flight.InFlight.{InFlight}
@@ -49,13 +49,13 @@ abbrev pub IsLine : CrawlFlags → Written → Type 0
 IsLine flags line = IsTextOf flags line.url line.ended line.text
 
 -- a line is not written whole: none of it, if memory ran out; a front of it, if a write failed
-abbrev pub LineFails : Stream → Stream → Text → FaultKind → Type 0
+abbrev pub LineFails : Stream → Stream → Text → StreamFault → Type 0
 LineFails old new text Memory = Appends old.bytes new.bytes [] × SameFailures old new
 LineFails old new text Write = PutsFront old.bytes new.bytes text × OneMoreFailed old new
 LineFails old new text kind = ⊥
 
 -- a line is written, or not whole for that fault
-abbrev pub PutsAs : Stream → Stream → Text → Option FaultKind → Type 0
+abbrev pub PutsAs : Stream → Stream → Text → Option StreamFault → Type 0
 PutsAs old new text None = Appends old.bytes new.bytes text × SameFailures old new
 PutsAs old new text (Some kind) = LineFails old new text kind
 
@@ -67,7 +67,7 @@ abbrev pub AreWhole : List Written → Stream → Stream → Type 0
 AreWhole lines old new = Appends old.bytes new.bytes (flat_map text_of lines) × SameFailures old new
 
 -- these lines are written, but the last not whole
-pub record LastFails (lines : List Written) (old new : Stream) (kind : FaultKind) : Type 0 where
+pub record LastFails (lines : List Written) (old new : Stream) (kind : StreamFault) : Type 0 where
   pub before : List Written
   pub last : Written
   pub lines_are : lines ≡ before ++ (last ∷ [])
@@ -76,7 +76,7 @@ pub record LastFails (lines : List Written) (old new : Stream) (kind : FaultKind
   pub fails : LineFails mid new last.text kind
 
 -- these lines are written whole, but the last if there is a fault
-abbrev pub AreWritten : List Written → Stream → Stream → Option FaultKind → Type 0
+abbrev pub AreWritten : List Written → Stream → Stream → Option StreamFault → Type 0
 AreWritten lines old new None = AreWhole lines old new
 AreWritten lines old new (Some kind) = LastFails lines old new kind
 
@@ -86,7 +86,7 @@ pub record OutputShown : Type 0 where
   pub in_flight : List InFlight
   pub tally : Tally
   pub stream : Stream
-  pub fault : Option FaultKind
+  pub fault : Option StreamFault
   pub name : GName
 
 abbrev pub output_shown : Progress → Stream → GName → OutputShown
@@ -148,12 +148,12 @@ abbrev pub TakesResult : JobResult → OutputShown → OutputShown → Type 0
 TakesResult result old new = IgnoresResult result old new ⊎ WritesResult result old new
 
 -- a text is put whole, or its put fails with that fault
-abbrev pub PutsText : Stream → Stream → Text → Option FaultKind → Type 0
+abbrev pub PutsText : Stream → Stream → Text → Option StreamFault → Type 0
 PutsText old new text None = Appends old.bytes new.bytes text × SameFailures old new
 PutsText old new text (Some kind) = PutFails old new text kind
 
 -- a text is put, unless there was no memory for it
-abbrev pub WritesText : {E : Type 0} → Result (String Global) E → Stream → Stream → Option FaultKind → Type 0
+abbrev pub WritesText : {E : Type 0} → Result (String Global) E → Stream → Stream → Option StreamFault → Type 0
 WritesText (Ok text) old new fault = PutsText old new (string_bytes text) fault
 WritesText (Err error) old new fault = (new ≡ old) × (fault ≡ Some Memory)
 

@@ -5,7 +5,7 @@ ghost use Rattle.std.specs.Prelude.{string_bytes};
 ghost use Rattle.std.specs.Prelude.{true, IfErr, IfNone, IfOk, IfSome, IsOk, OnOk, OnSome};
 ghost use Rattle.exchange.specs.declared.job.Job.{Job};
 ghost use Rattle.run_loop.specs.Taking.{JobResult};
-ghost use Rattle.script_run.specs.Streams.{CanCount, Stream};
+ghost use Rattle.streams.specs.Streams.{CanCount, Stream};
 ghost use Rattle.client.specs.Crawling.{CrawlGiven, Crawls, HasFetched, HasStepped, IfEnd, IsAt};
 ghost use Rattle.client.specs.Crawling.{LeavesUrls, crawl_given, hosts_of, jobs_begun};
 ghost use Rattle.client.specs.Crawling.{none_begun};
@@ -13,7 +13,7 @@ ghost use Rattle.client.specs.Faults.{IsStepFault, line_fault};
 ghost use Rattle.client.specs.Reading.{TakesBad, queue_shown};
 ghost use Rattle.client.specs.Written.{TookAll, output_shown};
 ghost use Rattle.client.specs.declared.crawl.fault.CrawlFault.TheVariants as faults;
-ghost use Rattle.script_text.specs.declared.fault.FaultKind.TheVariants.{Read};
+ghost use Rattle.streams.specs.declared.stream_fault.StreamFault.TheVariants.{Read};
 
 pub(crate) mod crawler;
 pub(crate) mod fault;
@@ -49,15 +49,14 @@ use network::Network;
 use output::Output;
 use progress::Progress;
 use queue::Queue;
-use script_run::{Sink, Source};
-use script_text::FaultKind;
 use signals::CrawlSignals;
 use std::alloc::Global;
 use std::sync::atomic::AtomicBool;
+use streams::{Sink, Source, StreamFault};
 use window::Window;
 
 /// There is no memory for the URLs.
-const OUT_OF_MEMORY: CrawlFault = CrawlFault::Input(FaultKind::Memory);
+const OUT_OF_MEMORY: CrawlFault = CrawlFault::Input(StreamFault::Memory);
 
 /// URLs that are fetched over one cache, many at once.
 #[derive(Drop)]
@@ -169,7 +168,7 @@ fn unopened(fault: NetworkFault) -> Crawled
 
 // Returns the fault of a crawl, if it has one. The fault of a line comes before others.
 fn fault_of(
-    line: Option<FaultKind>,
+    line: Option<StreamFault>,
     ended: Result<(), CrawlFault>,
     finished: Result<(), NetworkFault>,
 ) -> Option<CrawlFault>

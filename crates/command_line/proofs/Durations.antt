@@ -3,7 +3,7 @@ use Rattle.std.proofs.Common.{◌≡◌, ◌∙◌, ◌-◌, ◌^◌, ℕ, List,
 use Rattle.std.specs.Prelude.{◌==◌, false, Option, None, Some}
 use Rattle.std.specs.List.{last_or}
 use Rattle.std.proofs.lemmas.List.{length-append}
-use Rattle.script_text.specs.Words.{number}
+use Rattle.streams.specs.Words.{number}
 use Rattle.command_line.specs.Numbers.{seconds_at, seconds_in, seconds_with}
 
 last-is : (o : Option ℕ) (front : List ℕ) (byte : ℕ) → last_or o (front ++ byte ∷ []) ≡ Some byte

@@ -6,7 +6,7 @@ use Rattle.std.specs.Char.{is_ascii_digit}
 use Rattle.std.specs.Str.{all_ascii_digits}
 use Rattle.std.specs.Str.Parse.{digits_value}
 use Rattle.std.proofs.lemmas.Str.Parse.{IsNumeralModel, digits_value_short, numerals_by_value, tells_all_ascii_digits}
-use Rattle.script_text.specs.Words.{number, if_below, has_bytes}
+use Rattle.streams.specs.Words.{number, if_below, has_bytes}
 use Rattle.command_line.specs.Numbers.{decimals_in}
 
 same-digits : (text : List ℕ) → list_all is_ascii_digit text ≡ all_ascii_digits text

@@ -5,7 +5,7 @@ use Rattle.clap.specs.Words.{App, Kinds, IsAmong, Row, Text, fault_of, new_app, 
 use Rattle.clap.specs.Walk.{first_of}
 use Rattle.clap.specs.declared.error.kind.ErrorKind.{ErrorKind}
 use Rattle.clap.specs.declared.error.kind.ErrorKind.TheVariants as kinds
-use Rattle.conn_key.specs.Wants.{Rises}
+use Rattle.streams.specs.RisingCounts.{Rises}
 use Rattle.command_line.specs.GetPlans.{IsGetRefused, IsPlanOf, plan_file}
 use Rattle.command_line.specs.Inputs.{AreAuditWords, AreScriptWords, asked_file, file_of, name_of}
 use Rattle.command_line.specs.LoadPlans.{IsLoadPlanOf, IsLoadRefused}

@@ -6,8 +6,8 @@ use Rattle.clap.specs.Words.{Row, Text}
 use Rattle.clap.specs.Walk.{first_of}
 use Rattle.command_line.specs.Options.{flag_said}
 use Rattle.command_line.specs.declared.audit_words.AuditWords.{AuditWords}
-use Rattle.command_line.specs.declared.input.ScriptInput.{ScriptInput}
-use Rattle.command_line.specs.declared.input.ScriptInput.TheVariants.{Standard, File}
+use Rattle.command_line.specs.declared.input.Input.{Input}
+use Rattle.command_line.specs.declared.input.Input.TheVariants.{Standard, File}
 use Rattle.command_line.specs.declared.script_words.ScriptWords.{ScriptWords}
 
 -- the file to be read, if the words name that one; none is standard input, which `-` names too
@@ -15,7 +15,7 @@ abbrev pub asked_file : Option Text → Option Text
 asked_file None = None
 asked_file (Some name) = if bytes_eq name (codes "-") then None else Some name
 
-abbrev pub name_of : ScriptInput → Option Text
+abbrev pub name_of : Input → Option Text
 name_of Standard = None
 name_of (File name) = Some (string_bytes name)
 

@@ -3,7 +3,7 @@ use Rattle.std.specs.Prelude.{◌≤◌, ◌+◌, ◌*◌, ◌-◌, ◌^◌, ◌
 use Rattle.std.specs.List.{before_first, after_first, last_or, position_or_len}
 use Rattle.std.specs.Option.{option_and_then, option_map}
 use Rattle.clap.specs.Words.{Text}
-use Rattle.script_text.specs.Words.{number}
+use Rattle.streams.specs.Words.{number}
 
 -- a number in a range
 abbrev pub IsWithin : ℕ → ℕ → ℕ → Type 0

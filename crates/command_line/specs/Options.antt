@@ -7,7 +7,7 @@ use Rattle.clap.specs.Words.{App, Row, Rule, Text, new_app, new_rule, with_rule}
 use Rattle.clap.specs.Walk.{all_of, first_of}
 use Rattle.clap.specs.Lexer.{usize_max}
 use Rattle.clap.specs.declared.builder.action.ArgAction.TheVariants.{Append, SetTrue}
-use Rattle.script_text.specs.Words.{number}
+use Rattle.streams.specs.Words.{number}
 use Rattle.command_line.specs.Numbers.{if_in, percent_in, seconds_in}
 use Rattle.command_line.specs.OptionTable.{OptionFacts}
 use Rattle.command_line.specs.declared.options.Takes.{Takes}

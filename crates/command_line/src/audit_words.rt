@@ -4,10 +4,10 @@ ghost use Rattle.std.specs.Prelude.{IfOk};
 ghost use Rattle.clap.specs.Words.{found_of, rows_of};
 ghost use Rattle.command_line.specs.Inputs.{AreAuditWords};
 
-use crate::input::{ScriptInput, input_of};
+use crate::input::{Input, input_of};
 use crate::options::{ALL, AUDIT_FILE, AUDIT_JSON, STATE};
 use crate::values::{flag, text_of};
-use audit_run::Telling;
+use audit_stream::Telling;
 use clap::ArgMatches;
 use std::alloc::{AllocError, Global};
 
@@ -17,7 +17,7 @@ pub struct AuditWords {
     /// How violations are reported.
     pub telling: Telling,
     /// The trace.
-    pub input: ScriptInput,
+    pub input: Input,
 }
 
 /// Reads the words after `audit`.

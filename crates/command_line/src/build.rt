@@ -1,6 +1,6 @@
 //! How this program was built.
 
-use load_figures::Build;
+use load_report::Build;
 
 /// How this program was built. The tool that compiles the program without proofs changes this line
 /// in its copy of the sources.

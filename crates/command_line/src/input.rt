@@ -7,7 +7,7 @@ use std::alloc::{AllocError, Global};
 
 /// The input of a script or an audit.
 #[derive(Drop)]
-pub enum ScriptInput {
+pub enum Input {
     /// Standard input.
     Standard,
     /// The file of that name.
@@ -19,17 +19,17 @@ pub enum ScriptInput {
 /// # Errors
 ///
 /// Memory ran out.
-pub(crate) fn input_of(alloc: Global, file: Option<&str>) -> Result<ScriptInput, AllocError>
+pub(crate) fn input_of(alloc: Global, file: Option<&str>) -> Result<Input, AllocError>
     ensures { IfOk result (λ input.
         name_of input ≡ asked_file (option_map (λ name. name.now) file.entry)) }
 {
     match file {
-        None => Ok(ScriptInput::Standard),
+        None => Ok(Input::Standard),
         Some(name) => {
             if name == "-" {
-                Ok(ScriptInput::Standard)
+                Ok(Input::Standard)
             } else {
-                Ok(ScriptInput::File(String::from_str(alloc, name)?))
+                Ok(Input::File(String::from_str(alloc, name)?))
             }
         }
     }

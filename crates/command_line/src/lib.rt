@@ -30,7 +30,7 @@ mod worked;
 pub use audit_words::AuditWords;
 pub use build::{BUILD, VERSION};
 pub use get_plan::CrawlPlan;
-pub use input::ScriptInput;
+pub use input::Input;
 pub use load_limits::LoadOptions;
 pub use load_measured::{MeasuredFlags, MeasuredNumbers};
 pub use load_numbers::load_options;

@@ -1,7 +1,7 @@
 //! Numbers on the command line.
 
 ghost use Rattle.std.specs.Prelude.{◌≡◌, ◌^◌};
-ghost use Rattle.script_text.specs.Words.{number};
+ghost use Rattle.streams.specs.Words.{number};
 ghost use Rattle.command_line.specs.Numbers.{decimals_in, percent_in, percent_with, seconds_in};
 ghost use Rattle.command_line.specs.Numbers.{seconds_with};
 
@@ -12,7 +12,7 @@ const MOST_HUNDREDTHS: u64 = 10_000;
 pub(crate) fn number_of(text: &[u8]) -> Option<u64>
     ensures { result ≡ number (2 ^ 64) text.now }
 {
-    script_text::number_of(text)
+    streams::number_of(text)
 }
 
 /// Returns a duration in seconds: digits, and possibly a unit, which is `s`, `m` or `h`.

@@ -11,7 +11,7 @@ ghost use Rattle.command_line.specs.Refusals.{IsWhy};
 
 use crate::audit_words::{AuditWords, audit_words};
 use crate::get_plan::{CrawlPlan, get_plan};
-use crate::input::ScriptInput;
+use crate::input::Input;
 use crate::load_plan::LoadPlan;
 use crate::load_planning::load_plan;
 use crate::options::{get_options, load_options};
@@ -93,7 +93,7 @@ fn request_in(alloc: Global, matches: &ArgMatches<'_>) -> Request
         None => Request::Script(ScriptWords {
             is_traced: false,
             picture: None,
-            input: ScriptInput::Standard,
+            input: Input::Standard,
         }),
     }
 }

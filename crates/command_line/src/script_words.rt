@@ -4,7 +4,7 @@ ghost use Rattle.std.specs.Prelude.{IfOk};
 ghost use Rattle.clap.specs.Words.{found_of, rows_of};
 ghost use Rattle.command_line.specs.Inputs.{AreScriptWords};
 
-use crate::input::{ScriptInput, input_of};
+use crate::input::{Input, input_of};
 use crate::options::{SCRIPT_FILE, SCRIPT_PICTURE, SCRIPT_TRACE};
 use crate::values::{flag, text, text_of};
 use clap::ArgMatches;
@@ -17,7 +17,7 @@ pub struct ScriptWords {
     pub is_traced: bool,
     /// The file for the picture.
     pub picture: Option<String>,
-    pub input: ScriptInput,
+    pub input: Input,
 }
 
 /// Reads the words after `script`.

@@ -54,7 +54,7 @@ pub fn worked_audit_lines()
 
 /// Percentages, by computation: `0.5` is 50 hundredths, and `100.01` is refused, as is a
 /// third decimal, or a dot without digits on both sides.
-#[tactic(auto, unfolding(script_text::specs::Words::number))]
+#[tactic(auto, unfolding(streams::specs::Words::number))]
 pub fn worked_percentages()
     ensures read { ReadsPercentages }
     ensures refused { RefusesPercentages }
@@ -62,7 +62,7 @@ pub fn worked_percentages()
 
 /// Durations, by computation: `5m` is 300 seconds, `1h` 3,600. Another unit, two units, or
 /// a unit without digits are refused, and more seconds than fit in 64 bits.
-#[tactic(auto, unfolding(script_text::specs::Words::number))]
+#[tactic(auto, unfolding(streams::specs::Words::number))]
 pub fn worked_durations()
     ensures read { ReadsDurations }
     ensures refused { RefusesDurations }
@@ -75,7 +75,7 @@ pub fn worked_plain_options()
 
 /// Values of `--resolve`, by computation: a host, in brackets too, a port and the text of
 /// an address. A value without a host, a port from 1 to 65535, or an address is refused.
-#[tactic(auto, unfolding(script_text::specs::Words::number))]
+#[tactic(auto, unfolding(streams::specs::Words::number))]
 pub fn worked_resolves()
     ensures read { ReadsResolves }
     ensures refused { RefusesResolves }

@@ -2,4 +2,6 @@ pub mod Index
 pub mod Site
 pub mod Sites
 pub mod Target
-pub mod Wants
+pub mod Hosts
+pub mod Giving
+pub mod Laws

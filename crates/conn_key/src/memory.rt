@@ -2,7 +2,7 @@
 
 ghost use Rattle.std.specs.Prelude.{◌≡◌, ◌≤◌, ◌++◌, ℕ, None, IfOk, IfErr, string_bytes};
 ghost use Rattle.url.specs.Parser.{parse_url, Gives, IsOutOfRoom};
-ghost use Rattle.conn_key.specs.Wants.{Rises};
+ghost use Rattle.streams.specs.RisingCounts.{Rises};
 
 use std::alloc::{AllocError, Global};
 use url::{ParseError, Url};

@@ -1,7 +1,7 @@
 ghost use Rattle.std.specs.Prelude.{◌≡◌, ◌≤◌, IfOk, IfErr};
 ghost use Rattle.conn_key.specs.declared.target.KeyError.TheVariants.{Memory};
 ghost use Rattle.conn_key.specs.Target.{IsHttp, LeadsTo, GivesTarget, Refuses};
-ghost use Rattle.conn_key.specs.Wants.{Rises};
+ghost use Rattle.streams.specs.RisingCounts.{Rises};
 
 use crate::memory::TargetMemory;
 use std::alloc::AllocError;

@@ -4,8 +4,8 @@ use Rattle.conn_log.specs.Legal.{LimitAndFirst, IsLegal}
 use Rattle.conn_log.specs.declared.entry.Entry.{Entry}
 use Rattle.conn_log.specs.Log.{Recorded}
 use Rattle.bundle.specs.Lease.{HostShown}
-use Rattle.log_lines.specs.declared.writing.Told.{Told}
-use Rattle.log_lines.specs.Lines.{WritesLines}
+use Rattle.trace_text.specs.declared.writing.Told.{Told}
+use Rattle.trace_text.specs.LogLines.{WritesLines}
 
 pub writes_of_site : (host : HostShown ℕ) (log : Recorded) → log.entries ≡ host.log → log.cut_away ≡ host.cut_away → IsLegal host.settings host.log
     → (site from : ℕ) (told : Told) (old new : List ℕ) → ((settings : LimitAndFirst) → IsLegal settings log.entries → WritesLines site log.entries log.cut_away from told old new)

@@ -3,10 +3,10 @@
 use Rattle.std.specs.Prelude.{◌≡◌, ◌⊎◌, ℕ, ◌<◌, ◌≤◌, nat_lt, if◌then◌else◌, List, ◌++◌, length, take, drop, map, slice_index_or, slice_set, Option, Some, None}
 use Rattle.bundle.specs.Lease.{cut_refusal}
 use Rattle.cache.specs.Pools.{PoolShown, host_at, cut_at, cut_host}
-use Rattle.log_lines.specs.declared.writing.Stop.{Stop}
-use Rattle.log_lines.specs.declared.writing.Stop.TheVariants.{Small, Memory}
-use Rattle.log_lines.specs.declared.writing.Told.{Told}
-use Rattle.log_lines.specs.Lines.{WritesLines}
+use Rattle.trace_text.specs.declared.writing.Stop.{Stop}
+use Rattle.trace_text.specs.declared.writing.Stop.TheVariants.{Small, Memory}
+use Rattle.trace_text.specs.declared.writing.Told.{Told}
+use Rattle.trace_text.specs.LogLines.{WritesLines}
 use Rattle.held_pool.specs.Calls.{HeldShown}
 use Rattle.curlpool_c.specs.declared.inner.Inner.{Inner}
 use Rattle.curlpool_c.specs.declared.status.TheConstants.{OK, MORE, NO_MEMORY, BAD_SITE, CLOSED, SMALL}

@@ -4,7 +4,7 @@ use Rattle.std.specs.Prelude.{◌/◌, ◌%◌}
 use Rattle.persistence.specs.declared.method.Method.{Method}
 use Rattle.persistence.specs.declared.method.Method.TheVariants.{Get, Head}
 use Rattle.conn_log.specs.declared.entry.Want.{Want}
-use Rattle.slot_table.specs.declared.slot.Slot.{Slot}
+use Rattle.held_pool.specs.declared.slot.Slot.{Slot}
 
 -- the slot with a number
 abbrev pub slot_of : ℕ → Slot

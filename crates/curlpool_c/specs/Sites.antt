@@ -6,15 +6,15 @@ use Rattle.conn_log.specs.declared.counts.Counts.{Counts}
 use Rattle.budget.specs.declared.refusal.Refusal.{Refusal}
 use Rattle.host_rules.specs.Calls.{is_queued}
 use Rattle.host_rules.specs.Counts.{snapshot_of}
-use Rattle.pool_rules.specs.Calls.{after_limit_of, after_prune, prune_count}
+use Rattle.cache.specs.Calls.{after_limit_of, after_prune, prune_count}
 use Rattle.cache.specs.Pools.{all_hosts, host_at}
 use Rattle.cache.specs.PoolCalls.{IsCallAtAll, IsReason, limit_refusal_at}
-use Rattle.slot_table.specs.declared.slot.Slot.{Slot}
-use Rattle.slot_readers.specs.declared.response.Response.{Response}
-use Rattle.slot_readers.specs.Readers.{TellsSome}
-use Rattle.closed_tokens.specs.Numbers.{IsNext}
-use Rattle.site_table.specs.declared.site_table.PlaceError.{PlaceError}
-use Rattle.site_table.specs.Giving.{Gives, Refuses}
+use Rattle.held_pool.specs.declared.slot.Slot.{Slot}
+use Rattle.held_pool.specs.declared.response.Response.{Response}
+use Rattle.held_pool.specs.Readers.{TellsSome}
+use Rattle.held_pool.specs.TokenNumbers.{IsNext}
+use Rattle.conn_key.specs.declared.place_table.PlaceError.{PlaceError}
+use Rattle.conn_key.specs.Giving.{Gives, Refuses}
 use Rattle.held_pool.specs.Calls.{HeldShown, is_unused_site, reading_for}
 use Rattle.curlpool_c.specs.declared.inner.Inner.{Inner}
 use Rattle.curlpool_c.specs.declared.structs.CLook.{CLook}

@@ -8,18 +8,18 @@ use Rattle.conn_key.specs.declared.target.KeyError.{KeyError}
 use Rattle.conn_key.specs.declared.target.KeyError.TheVariants as key
 use Rattle.budget.specs.declared.refusal.Refusal.{Refusal}
 use Rattle.budget.specs.declared.refusal.Refusal.TheVariants as refusal
-use Rattle.site_table.specs.declared.site_table.PlaceError.{PlaceError}
-use Rattle.site_table.specs.declared.site_table.PlaceError.TheVariants as place
-use Rattle.slot_readers.specs.declared.response.FeedError.{FeedError}
-use Rattle.slot_readers.specs.declared.response.FeedError.TheVariants as feed
-use Rattle.held_pool.specs.declared.answers.Got.{Got}
-use Rattle.held_pool.specs.declared.answers.Got.TheVariants as got
+use Rattle.conn_key.specs.declared.place_table.PlaceError.{PlaceError}
+use Rattle.conn_key.specs.declared.place_table.PlaceError.TheVariants as place
+use Rattle.held_pool.specs.declared.response.FeedError.{FeedError}
+use Rattle.held_pool.specs.declared.response.FeedError.TheVariants as feed
+use Rattle.held_pool.specs.declared.answers.SlotAnswer.{SlotAnswer}
+use Rattle.held_pool.specs.declared.answers.SlotAnswer.TheVariants as got
 use Rattle.held_pool.specs.declared.answers.SlotError.{SlotError}
 use Rattle.held_pool.specs.declared.answers.SlotError.TheVariants as slot
 use Rattle.curlpool_c.specs.declared.status.TheConstants.{NEW, REUSED, WAIT, MORE, WHOLE, NO_MEMORY, FULL, STRANGER, BAD_LIMIT, BAD_SITE, BUSY, EXHAUSTED, LEASED, UNATTACHED, ATTACHED, UNREAD, ENDED, BAD_HEAD, BAD_LENGTH, BAD_CHUNK, HEAD_TOO_LONG, TOO_MANY_INTERIMS, TRAILER_TOO_LONG, NOT_URL, NOT_HTTP, URL_TOO_LONG}
 
 -- what a transfer got
-abbrev pub got_status : Got → ℕ
+abbrev pub got_status : SlotAnswer → ℕ
 got_status got.New = NEW
 got_status (got.Reused token) = REUSED
 got_status got.Wait = WAIT

@@ -5,12 +5,12 @@ use Rattle.persistence.specs.declared.answer.Fed.{Fed}
 use Rattle.persistence.specs.Reader.{Reading}
 use Rattle.conn_log.specs.declared.entry.Want.{Want}
 use Rattle.budget.specs.declared.refusal.Refusal.{Refusal}
-use Rattle.slot_table.specs.declared.slot.Slot.{Slot}
-use Rattle.slot_table.specs.Slots.{value_in}
-use Rattle.slot_readers.specs.declared.response.FeedError.{FeedError}
-use Rattle.slot_readers.specs.Readers.{SameReaders, EndsSlot}
-use Rattle.held_pool.specs.declared.answers.Got.{Got}
-use Rattle.held_pool.specs.declared.answers.Got.TheVariants.{New, Reused, Wait}
+use Rattle.held_pool.specs.declared.slot.Slot.{Slot}
+use Rattle.held_pool.specs.Slots.{value_in}
+use Rattle.held_pool.specs.declared.response.FeedError.{FeedError}
+use Rattle.held_pool.specs.Readers.{SameReaders, EndsSlot}
+use Rattle.held_pool.specs.declared.answers.SlotAnswer.{SlotAnswer}
+use Rattle.held_pool.specs.declared.answers.SlotAnswer.TheVariants.{New, Reused, Wait}
 use Rattle.held_pool.specs.declared.answers.SlotError.{SlotError}
 use Rattle.held_pool.specs.declared.answers.SlotError.TheVariants as faults
 use Rattle.held_pool.specs.Calls.{HeldShown, HasSameRest, AcquiresSlot, RefusesSlot, Attaches, attach_fault, ClaimsHeld, GrantsSlot, HoldsSame, BeginsResponse, lease_fault, FeedsHeld, reading_for, GivesBackRead, read_fault, GivesBackSlot, back_fault, AbandonsSlot, WithdrawsSlot, ticket_fault}
@@ -19,17 +19,17 @@ use Rattle.curlpool_c.specs.Numbers.{slot_of}
 use Rattle.curlpool_c.specs.Statuses.{got_status, refusal_status, slot_status, feed_status, fed_status}
 
 -- the token that is told with what a transfer got
-abbrev pub token_told : Got → ℕ → ℕ
+abbrev pub token_told : SlotAnswer → ℕ → ℕ
 token_told (Reused token) before = token
 token_told New before = before
 token_told Wait before = before
 
 -- the status of an acquire, a claim, a call by slot, and a feed
-abbrev pub acquire_status : Result (Slot × Got) Refusal → ℕ
+abbrev pub acquire_status : Result (Slot × SlotAnswer) Refusal → ℕ
 acquire_status (Ok given) = got_status given.1
 acquire_status (Err refusal) = refusal_status refusal
 
-abbrev pub claim_status : Result Got SlotError → ℕ
+abbrev pub claim_status : Result SlotAnswer SlotError → ℕ
 claim_status (Ok got) = got_status got
 claim_status (Err error) = slot_status error
 
@@ -42,20 +42,20 @@ read_status (Ok fed) = fed_status fed
 read_status (Err error) = feed_status error
 
 -- what an acquire and a claim write: the slot, and the token
-abbrev pub WritesSlot : Result (Slot × Got) Refusal → ℕ → ℕ → Type 0
+abbrev pub WritesSlot : Result (Slot × SlotAnswer) Refusal → ℕ → ℕ → Type 0
 WritesSlot (Ok given) old new = slot_of new ≡ given.0
 WritesSlot (Err refusal) old new = new ≡ old
 
-abbrev pub token_after : Result (Slot × Got) Refusal → ℕ → ℕ
+abbrev pub token_after : Result (Slot × SlotAnswer) Refusal → ℕ → ℕ
 token_after (Ok given) before = token_told given.1 before
 token_after (Err refusal) before = before
 
-abbrev pub token_claimed : Result Got SlotError → ℕ → ℕ
+abbrev pub token_claimed : Result SlotAnswer SlotError → ℕ → ℕ
 token_claimed (Ok got) before = token_told got before
 token_claimed (Err error) before = before
 
 pub record TellsAcquire (old new : HeldShown) (site : ℕ) (want : Want) (now status slot slot_new token token_new : ℕ) : Type 0 where
-  pub answer : Result (Slot × Got) Refusal
+  pub answer : Result (Slot × SlotAnswer) Refusal
   pub ok : IfOk answer (AcquiresSlot old new site want now)
   pub refused : IfErr answer (RefusesSlot old site want)
   pub same : OnErr answer (new ≡ old)
@@ -78,7 +78,7 @@ pub record TellsAttach (old new : HeldShown) (slot : Slot) (token status : ℕ) 
   pub told : status ≡ done_status answer
 
 pub record TellsClaim (old new : HeldShown) (slot : Slot) (status token token_new : ℕ) : Type 0 where
-  pub answer : Result Got SlotError
+  pub answer : Result SlotAnswer SlotError
   pub ok : IfOk answer (λ got. ClaimsHeld old new slot got (value_in old.places slot))
   pub err : IfErr answer (λ fault. (fault ≡ faults.Stranger) × (value_in old.places slot ≡ None))
   pub same : OnErr answer (new ≡ old)

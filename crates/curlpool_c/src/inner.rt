@@ -3,8 +3,7 @@
 ghost use Rattle.std.specs.Prelude.{◌≡◌, None, Some, IfOk, replicate};
 
 use budget::Limits;
-use closed_tokens::ClosedTokens;
-use held_pool::HeldPool;
+use held_pool::{ClosedTokens, HeldPool};
 use std::alloc::{AllocError, Global};
 
 /// What lies behind a handle: the pool while it is open, and once all was ended the tokens that are

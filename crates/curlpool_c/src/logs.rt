@@ -10,8 +10,8 @@ use crate::inner::Inner;
 use crate::status::{BAD_SITE, CLOSED, MORE, NO_MEMORY, OK, SMALL, refusal_status};
 use budget::Refusal;
 use held_pool::HeldPool;
-use log_lines::{Stop, write_lines};
 use std::alloc::Global;
+use trace_text::{Stop, write_lines};
 
 // The status of a log that was not told to its end, of which so many bytes were written.
 fn stop_status(stop: Stop, written: usize) -> u32

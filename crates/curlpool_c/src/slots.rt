@@ -4,8 +4,8 @@ ghost use Rattle.std.specs.Prelude.{◌≡◌};
 ghost use Rattle.curlpool_c.specs.Numbers.{method_of, slot_of, wanted};
 
 use conn_log::Want;
+use held_pool::Slot;
 use persistence::Method;
-use slot_table::Slot;
 
 /// The slot with this number: its index, and for how many values its place was filled.
 #[inline(always)]

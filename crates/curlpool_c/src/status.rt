@@ -5,11 +5,9 @@ ghost use Rattle.curlpool_c.specs.Statuses.{feed_status, got_status, key_status,
 ghost use Rattle.curlpool_c.specs.Statuses.{fault_status, refusal_status, slot_status};
 
 use budget::Refusal;
-use conn_key::KeyError;
-use held_pool::{Got, SlotError};
+use conn_key::{KeyError, PlaceError};
+use held_pool::{FeedError, SlotAnswer, SlotError};
 use persistence::ReadFault;
-use site_table::PlaceError;
-use slot_readers::FeedError;
 
 /// It is done.
 pub const OK: u32 = 0;
@@ -80,13 +78,13 @@ pub const SMALL: u32 = 32;
 
 // What a transfer got.
 #[inline(always)]
-pub(crate) fn got_status(got: Got) -> u32
+pub(crate) fn got_status(got: SlotAnswer) -> u32
     ensures { result ≡ got_status got }
 {
     match got {
-        Got::New => NEW,
-        Got::Reused(_) => REUSED,
-        Got::Wait => WAIT,
+        SlotAnswer::New => NEW,
+        SlotAnswer::Reused(_) => REUSED,
+        SlotAnswer::Wait => WAIT,
     }
 }
 

@@ -6,8 +6,8 @@ ghost use Rattle.curlpool_c.specs.Structs.{IsCounts, IsLook, IsResponse, framing
 
 use bundle::Snapshot;
 use conn_log::Counts;
+use held_pool::Response;
 use persistence::{Facts, Framing, Version};
-use slot_readers::Response;
 
 /// `curlpool_facts`: what decides whether a connection persists. Version 0 is HTTP/1.0, 1 is
 /// HTTP/1.1; framing 0 is no body, 1 counted, 2 chunked, 3 until the connection ends, 4 faulty.

@@ -17,16 +17,16 @@ use crate::status::{
     slot_status,
 };
 use conn_log::Want;
-use held_pool::{Got, HeldPool, SlotError};
+use held_pool::{HeldPool, SlotAnswer, SlotError};
 use persistence::{Facts, Fed, Method};
 use std::alloc::Global;
 
 // Writes the token that is told with what a transfer got, if one is.
 #[inline(always)]
-fn tell_token(got: Got, token: &mut u64)
+fn tell_token(got: SlotAnswer, token: &mut u64)
     ensures { token.new ≡ token_told got token.old }
 {
-    if let Got::Reused(number) = got {
+    if let SlotAnswer::Reused(number) = got {
         *token = number;
     }
 }

@@ -11,7 +11,7 @@ use Rattle.std.proofs.lemmas.Bool.{cases_eq}
 use Rattle.std.proofs.lemmas.Bool.Decides.{nat_tests}
 use Rattle.budget.proofs.Sums.{one_if}
 use Rattle.budget.specs.Words.{whole}
-use Rattle.job_counter.specs.Draws.{Drawn, Jobs, times, AreFirst, first_seat, together}
+use Rattle.run_loop.specs.Draws.{Drawn, Jobs, times, AreFirst, first_seat, together}
 use Rattle.exchange.specs.declared.job.Job.{Job}
 use Rattle.exchange.specs.declared.done.Done.{Done}
 use Rattle.exchange.specs.Worlds.{World}

@@ -7,7 +7,7 @@ use Rattle.std.proofs.lemmas.List.Elements.{All-nil, All-push, All-pop, All-head
 use Rattle.std.proofs.lemmas.List.Sums.{sum_by-append}
 use Rattle.std.proofs.lemmas.List.Concat.{flat_map-append, flat_map-cons}
 use Rattle.budget.proofs.Sums.{one_if}
-use Rattle.job_counter.specs.Draws.{Jobs, Drawn, times, AreFirst, together}
+use Rattle.run_loop.specs.Draws.{Jobs, Drawn, times, AreFirst, together}
 use Rattle.bundle.specs.Passes.{Accounts}
 use Rattle.exchange.specs.declared.job.Job.{Job}
 use Rattle.exchange.specs.declared.done.Done.{Done}

@@ -1,6 +1,6 @@
 -- What a worker is hired with.
 use Rattle.std.proofs.Common.{◌≡◌, sym, subst, [], Option, Some, None, IsSomeAnd}
-use Rattle.job_counter.specs.Draws.{Jobs, new_seat}
+use Rattle.run_loop.specs.Draws.{Jobs, new_seat}
 use Rattle.bundle.specs.Passes.{Accounts}
 use Rattle.shared_cache.specs.Names.{CacheNames}
 use Rattle.shared_cache.specs.Passes.{IsPassOf, IsNewPass}

@@ -5,7 +5,7 @@ use Rattle.std.specs.List.{All}
 use Rattle.std.proofs.lemmas.List.{append_assoc}
 use Rattle.std.proofs.lemmas.List.Elements.{All-head, All-tail, All-push}
 use Rattle.std.proofs.lemmas.Option.{get_or_from_slice_get}
-use Rattle.job_counter.specs.Draws.{times}
+use Rattle.run_loop.specs.Draws.{times}
 use Rattle.cache_trait.specs.CacheCalls.{CacheCall}
 use Rattle.exchange.specs.declared.job.Job.{Job}
 use Rattle.exchange.specs.declared.job.Prepared.{Prepared}

@@ -1,7 +1,7 @@
 -- What a worker begins with, what it leaves, and where its results are put.
 use Rattle.std.specs.Prelude.{◌≡◌, ℕ, ◌<◌, ◌⊎◌, List, [], length, None, IfNone, IsSomeAnd, slice_get}
 use Rattle.std.specs.List.{Contains}
-use Rattle.job_counter.specs.Draws.{Jobs, times, new_seat}
+use Rattle.run_loop.specs.Draws.{Jobs, times, new_seat}
 use Rattle.exchange.specs.declared.job.Job.{Job}
 use Rattle.exchange.specs.declared.done.Done.{Done}
 use Rattle.exchange.specs.Worlds.{World}

@@ -2,7 +2,7 @@
 use Rattle.std.specs.Prelude.{◌≡◌, ℕ, ◌-◌, ◌<◌, List, [], ◌∷◌, ◌++◌, take, length, Bool, true, false, Option, Some, None}
 use Rattle.std.specs.Option.{ForSome}
 use Rattle.std.specs.List.{All}
-use Rattle.job_counter.specs.Draws.{Jobs, Drawn}
+use Rattle.run_loop.specs.Draws.{Jobs, Drawn}
 
 abbrev pub all_but_last : List ℕ → List ℕ
 all_but_last numbers = take (length numbers - 1) numbers

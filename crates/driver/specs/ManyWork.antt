@@ -1,7 +1,7 @@
 -- What a worker of a run with many jobs at once does, and what such a run answers.
 use Rattle.std.specs.Prelude.{◌≡◌, ℕ, ◌<◌, ◌≤◌, List, [], ◌∷◌, map, Bool, true, ◌||◌, nat_lt, Option, Some, None, IsSomeAnd}
 use Rattle.std.specs.List.{All, flat_map}
-use Rattle.job_counter.specs.Draws.{Jobs, Drawn, new_seat, AreFirst}
+use Rattle.run_loop.specs.Draws.{Jobs, Drawn, new_seat, AreFirst}
 use Rattle.bundle.specs.Passes.{Accounts}
 use Rattle.exchange.specs.declared.job.Job.{Job}
 use Rattle.exchange.specs.declared.done.Done.{Done}
@@ -9,8 +9,8 @@ use Rattle.exchange.specs.Transfers.{TransferShown}
 use Rattle.exchange.specs.Worlds.{World}
 use Rattle.shared_cache.specs.Names.{CacheNames}
 use Rattle.shared_cache.specs.Passes.{IsPassOf, IsNewPass}
-use Rattle.desk.specs.Desks.{DeskShown}
-use Rattle.desk.specs.DeskCalls.{DidAtDesk}
+use Rattle.shared_cache.specs.Desks.{DeskShown}
+use Rattle.shared_cache.specs.DeskCalls.{DidAtDesk}
 use Rattle.run_loop.specs.declared.run_end.RunEnd.{RunEnd}
 use Rattle.run_loop.specs.declared.run_end.RunEnd.TheVariants.{Complete}
 use Rattle.run_loop.specs.Going.{may_stop_at, worse_end, TurnsAt, IfComplete, IfStopped}

@@ -1,6 +1,6 @@
 -- Why a worker gives up, and what that says of its dial's failed turns.
 use Rattle.std.specs.Prelude.{◌≡◌, ℕ, Option, Some, None, Result, Ok, Err}
-use Rattle.conn_key.specs.Wants.{Rises}
+use Rattle.streams.specs.RisingCounts.{Rises}
 use Rattle.exchange.specs.declared.done.Done.{Done}
 use Rattle.exchange.specs.declared.job_run.JobStop.{JobStop}
 use Rattle.exchange.specs.declared.job_run.JobStop.TheVariants.{Control, TurnFailed}

@@ -1,15 +1,15 @@
 -- What a run answers.
 use Rattle.std.specs.Prelude.{◌≡◌, ℕ, ◌<◌, List, length, map, slice_get, true, IsSomeAnd}
 use Rattle.std.specs.List.{All, Contains, flat_map}
-use Rattle.job_counter.specs.Draws.{AreFirst}
+use Rattle.run_loop.specs.Draws.{AreFirst}
 use Rattle.exchange.specs.declared.job.Job.{Job}
 use Rattle.exchange.specs.declared.done.Done.{Done}
 use Rattle.exchange.specs.Worlds.{World}
 use Rattle.bundle.specs.Passes.{Accounts}
 use Rattle.shared_cache.specs.Names.{CacheNames}
 use Rattle.shared_cache.specs.Passes.{IsPassOf, IsNewPass}
-use Rattle.desk.specs.Desks.{DeskShown}
-use Rattle.desk.specs.DeskCalls.{DidAtDesk}
+use Rattle.shared_cache.specs.Desks.{DeskShown}
+use Rattle.shared_cache.specs.DeskCalls.{DidAtDesk}
 use Rattle.run_loop.specs.Running.{numbers_of}
 use Rattle.driver.specs.declared.fault.DriverFault.{DriverFault}
 use Rattle.driver.specs.declared.fault.DriverFault.TheVariants.{BadWorkers}

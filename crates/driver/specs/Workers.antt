@@ -3,7 +3,7 @@ use Rattle.std.specs.Prelude.{◌≡◌, ℕ, ◌+◌, ◌<◌, ◌∷◌, ◌++
 use Rattle.std.specs.List.{All}
 use Rattle.cache_trait.specs.CacheCalls.{CacheCall}
 use Rattle.bundle.specs.Passes.{Accounts}
-use Rattle.job_counter.specs.Draws.{Drawn}
+use Rattle.run_loop.specs.Draws.{Drawn}
 use Rattle.exchange.specs.declared.job.Job.{Job}
 use Rattle.exchange.specs.declared.done.Done.{Done}
 use Rattle.exchange.specs.Worlds.{World}

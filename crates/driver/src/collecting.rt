@@ -5,7 +5,7 @@ ghost use Rattle.std.specs.Prelude.{◌≡◌, ◌+◌, ◌<◌, ◌≤◌, List
 ghost use Rattle.std.specs.Prelude.{vec_len, vec_capacity};
 ghost use Rattle.std.specs.List.{All, sum_by};
 ghost use Rattle.budget.specs.Words.{whole};
-ghost use Rattle.job_counter.specs.Draws.{first_seat};
+ghost use Rattle.run_loop.specs.Draws.{first_seat};
 ghost use Rattle.exchange.specs.Worlds.{world_of};
 ghost use Rattle.shared_cache.specs.Passes.{IsPassOf};
 ghost use Rattle.driver.specs.Faults.{IsWorkerFault};
@@ -22,13 +22,13 @@ use crate::worker::{Worker, WorkerResult};
 use budget::Pass;
 use bundle::Did;
 use exchange::{Clock, Dial, Done, Wire};
-use job_counter::ClaimSeat;
+use run_loop::JobSeat;
 use shared_cache::Names;
 
 /// Puts the results of all workers in the order of the jobs, and takes their passes back.
 pub(crate) fn collect<W: Wire, N: Names, D: Dial<W>, K: Clock, G: Gate>(
     shared: &RunContext<'_, K, G>,
-    seat: ClaimSeat,
+    seat: JobSeat,
     workers: Vec<Worker<'_, W, D>>,
     results: Vec<Done>,
     passes: Vec<Pass<Did>>,

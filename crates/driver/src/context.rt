@@ -4,12 +4,12 @@ use crate::bell::Bell;
 use crate::faults::Faults;
 use crate::gate::Gate;
 use exchange::{Clock, Job};
-use job_counter::Claim;
+use run_loop::JobCounter;
 
 /// What all workers of a run share, beside the cache.
 #[derive(Drop)]
 pub(crate) struct RunContext<'s, K: Clock, G: Gate> {
-    pub(crate) claim: &'s Claim,
+    pub(crate) claim: &'s JobCounter,
     pub(crate) jobs: &'s [Job],
     pub(crate) clock: &'s K,
     pub(crate) gate: &'s G,

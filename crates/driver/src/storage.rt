@@ -5,7 +5,7 @@ ghost use Rattle.std.specs.Prelude.{◌≡◌, ◌+◌, ◌≤◌, length, IfOk,
 ghost use Rattle.std.specs.Prelude.{vec_len, vec_capacity};
 ghost use Rattle.std.specs.List.{All, sum_by};
 ghost use Rattle.budget.specs.Words.{whole};
-ghost use Rattle.job_counter.specs.Draws.{first_seat};
+ghost use Rattle.run_loop.specs.Draws.{first_seat};
 ghost use Rattle.shared_cache.specs.Passes.{IsPassOf, IsNewPass};
 ghost use Rattle.driver.specs.Hiring.{IsHired};
 ghost use Rattle.driver.specs.Turns.{failed_of};
@@ -16,7 +16,7 @@ use budget::Pass;
 use bundle::Did;
 use exchange::{Dial, Done, Fault, JobRunner, Wire};
 use futures::task::{Doorbell, Solo};
-use job_counter::{Claim, ClaimSeat};
+use run_loop::{JobCounter, JobSeat};
 use shared_cache::{Names, SharedCache};
 use std::alloc::{AllocError, AllocGlobal, Global};
 use std::random::RandomSource;
@@ -27,8 +27,8 @@ pub(crate) const MOST_JOBS: u64 = 0x7fff_ffff_ffff_ffff;
 
 /// The storage of a run, which is allocated before it begins.
 pub(crate) struct RunStorage<'d, W: Wire, D: Dial<W>> {
-    pub(crate) claim: Claim,
-    pub(crate) seat: ClaimSeat,
+    pub(crate) claim: JobCounter,
+    pub(crate) seat: JobSeat,
     // The result of each job.
     pub(crate) results: Vec<Done>,
     // A task for each worker.
@@ -60,7 +60,7 @@ impl<'d, W: Wire, D: Dial<W>> RunStorage<'d, W, D> {
         if count_of_jobs > MOST_JOBS {
             return Err(AllocError);
         }
-        let (claim, seat) = Claim::new(alloc, count_of_jobs)?;
+        let (claim, seat) = JobCounter::new(alloc, count_of_jobs)?;
         let results = vec![in alloc; Done::Bad(Fault::Cancelled); jobs]?;
         let tasks = tasks_for(rt, alloc, count)?;
         let workers = Vec::with_capacity(alloc, count)?;
@@ -123,8 +123,8 @@ pub(crate) fn passes_for<S: Drop, N: Names, R: Wait>(
 /// passes comes back empty.
 pub(crate) fn hire<'d, W: Wire, N: Names, D: Dial<W>>(
     alloc: Global,
-    claim: &Claim,
-    seat: &mut ClaimSeat,
+    claim: &JobCounter,
+    seat: &mut JobSeat,
     dials: &'d mut [D],
     passes: Vec<Pass<Did>>,
     tasks: Vec<Solo>,

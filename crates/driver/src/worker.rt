@@ -17,7 +17,7 @@ use budget::Pass;
 use bundle::Did;
 use cache_trait::Cache;
 use exchange::{Clock, Dial, Done, JobRunner, Wire};
-use job_counter::ClaimSeat;
+use run_loop::JobSeat;
 use std::alloc::Global;
 use std::marker::{Model, PhantomData};
 use std::mem;
@@ -30,7 +30,7 @@ pub(crate) struct Worker<'d, W: Wire, D: Dial<W>> {
     runner: JobRunner,
     dial: &'d mut D,
     of: PhantomData<W>,
-    seat: ClaimSeat,
+    seat: JobSeat,
     // `None` while a desk has it.
     pass: Option<Pass<Did>>,
     // Each with the number of its job.
@@ -56,7 +56,7 @@ impl<'d, W: Wire, D: Dial<W>> Model for Worker<'d, W, D> {
 
 /// The results of a worker that has ended, with its seat and its pass.
 pub(crate) struct WorkerResult {
-    pub(crate) seat: ClaimSeat,
+    pub(crate) seat: JobSeat,
     pub(crate) pass: Pass<Did>,
     pub(crate) results: Vec<(u64, Done)>,
     pub(crate) quit: Option<Quit>,
@@ -68,7 +68,7 @@ impl<'d, W: Wire, D: Dial<W>> Worker<'d, W, D> {
         alloc: Global,
         runner: JobRunner,
         dial: &'d mut D,
-        seat: ClaimSeat,
+        seat: JobSeat,
         pass: Pass<Did>,
     ) -> Self
         ensures seat { result.seat ≡ seat }

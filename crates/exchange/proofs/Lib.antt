@@ -10,9 +10,6 @@ pub mod Receiving
 pub mod RequestText
 pub mod Begun
 pub mod Steps
-pub mod Slots
 pub mod Balanced
-pub mod Rounds
-pub mod Scheduling
 pub mod Opened
 pub mod Told

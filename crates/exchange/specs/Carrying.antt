@@ -1,6 +1,6 @@
 -- What carrying out a job is, from its beginning to its end.
 use Rattle.std.specs.Prelude.{◌≡◌, ◌≢◌, ℕ, ◌+◌, ◌≤◌, Option, Some, None, string_bytes}
-use Rattle.conn_key.specs.Wants.{Rises}
+use Rattle.streams.specs.RisingCounts.{Rises}
 use Rattle.cache_trait.specs.CacheCalls.{CacheCall}
 use Rattle.exchange.specs.Request.{request_text}
 use Rattle.exchange.specs.Answers.{text_of}

@@ -1,6 +1,6 @@
 -- What a dial shows, and what wires, dials and turns answer and leave.
 use Rattle.std.specs.Prelude.{◌≡◌, ◌≢◌, ℕ, ◌+◌, ◌⊎◌}
-use Rattle.conn_key.specs.Wants.{Rises}
+use Rattle.streams.specs.RisingCounts.{Rises}
 use Rattle.exchange.specs.declared.wire.Read.{Read}
 use Rattle.exchange.specs.declared.wire.Read.TheVariants.{Fault as ReadFault}
 use Rattle.exchange.specs.declared.wire.Written.{Written}

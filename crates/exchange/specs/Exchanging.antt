@@ -11,6 +11,9 @@ use Rattle.exchange.specs.declared.done.Done.TheVariants.{Bad}
 use Rattle.exchange.specs.declared.done.Fault.TheVariants.{Cancelled}
 use Rattle.exchange.specs.declared.state.State.{State}
 use Rattle.exchange.specs.declared.state.State.TheVariants.{Asking, Waiting, Dialling, Sending, Reading, Finished}
+use Rattle.exchange.specs.Transfers.{TransferShown}
+use Rattle.exchange.specs.Answers.{IsSameJob}
+use Rattle.exchange.specs.Stepping.{PollsFew}
 use Rattle.exchange.specs.Dialling.{DialShown, KeepsCounts}
 use Rattle.exchange.specs.Worlds.{World}
 use Rattle.exchange.specs.Since.{Outset}
@@ -133,3 +136,12 @@ NeedsAt name dial source _ _ = ⊥
 
 abbrev pub Needs : {W : Type 0} → (W → ℕ) → ℕ → ℕ → Bool → Option (State W) → Type 0
 Needs name dial source yielded state = IsSomeAnd state (NeedsAt name dial source yielded)
+
+-- a poll of a transfer, before and after it: it goes on with the same job, whatever was done before; what has ended stays
+-- so; and at the dial it does its own
+pub record IsPolled {C W : Type 0} (did : C → C → CacheCall W → Type 0) (world : World W) (before after : C) (old new : DialShown) (transfer next : TransferShown W) : Type 0 where
+  pub same : IsSameJob transfer.parts next.parts
+  pub story : Continues did world transfer.parts next.parts before after transfer.state next.state
+  pub steps : PollsFew did world before after next.has_yielded next.has_spent transfer.state next.state
+  pub over : IsFinished transfer.state → next.state ≡ transfer.state
+  pub dial : DialsItsOwn transfer.parts next.parts transfer.state next.state old new

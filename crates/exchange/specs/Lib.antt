@@ -15,6 +15,3 @@ pub mod Kept
 pub mod Exchanging
 pub mod Carrying
 pub mod Balance
-pub mod Slabs
-pub mod Rounds
-pub mod Scheduling

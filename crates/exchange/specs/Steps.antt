@@ -1,6 +1,6 @@
 -- What the parts of a step leave.
 use Rattle.std.specs.Prelude.{◌≡◌, ◌≢◌, ℕ, ◌+◌, ◌≤◌, Bool, true, false, if◌then◌else◌, Some, None, ◌⊎◌, List, [], ◌++◌, take}
-use Rattle.conn_key.specs.Wants.{Rises}
+use Rattle.streams.specs.RisingCounts.{Rises}
 use Rattle.persistence.specs.declared.facts.Facts.{Facts}
 use Rattle.persistence.specs.Split.{Parts, IsSplit}
 use Rattle.bundle.specs.Lease.{Leasing}

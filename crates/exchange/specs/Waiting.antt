@@ -10,6 +10,8 @@ use Rattle.exchange.specs.declared.state.State.TheVariants as at
 use Rattle.exchange.specs.declared.state.Step.{Step}
 use Rattle.exchange.specs.declared.state.Step.TheVariants.{Goes, Waits}
 use Rattle.bundle.specs.Lease.{Leasing}
+use Rattle.exchange.specs.Transfers.{TransferShown}
+use Rattle.exchange.specs.Stepping.{has_lease}
 
 -- it has asked to be polled again
 pub record HasYielded (old new : Context) : Type 0 where
@@ -56,3 +58,18 @@ AtStep (Waits state) P = P state
 abbrev pub StepLeaves : {W : Type 0} → (W → ℕ) → ℕ → Context → Context → Option Waker → Step W → Type 0
 StepLeaves name dial old new waker (Goes state) = new ≡ old
 StepLeaves name dial old new waker (Waits state) = LeavesAt name dial old new waker false state
+
+-- it waits for a connection
+abbrev pub is_waiting : {W : Type 0} → State W → Bool
+is_waiting (at.Waiting ticket) = true
+is_waiting _ = false
+
+abbrev pub HasTicket : {W : Type 0} → TransferShown W → Type 0
+HasTicket transfer = IsSomeAnd transfer.state (λ state. is_waiting state ≡ true)
+
+abbrev pub HasLease : {W : Type 0} → TransferShown W → Type 0
+HasLease transfer = IsSomeAnd transfer.state (λ state. has_lease state ≡ true)
+
+-- it waits for its dial or its wire, and has not asked for another turn
+abbrev pub IsAtWire : {W : Type 0} → TransferShown W → Type 0
+IsAtWire transfer = (transfer.has_yielded ≡ false) × HasLease transfer

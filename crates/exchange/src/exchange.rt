@@ -13,7 +13,7 @@ ghost use Rattle.exchange.specs.Kept.{OwnsIts, owns_prop};
 ghost use Rattle.exchange.specs.Owning.{IsReady};
 ghost use Rattle.exchange.specs.Exchanging.{Stands, IsFinished, Leaves, Cancels};
 ghost use Rattle.exchange.specs.Exchanging.{Closes, GivesUpDial, LeavesDial};
-ghost use Rattle.exchange.specs.Rounds.{IsPolled};
+ghost use Rattle.exchange.specs.Exchanging.{IsPolled};
 ghost use Rattle.exchange.specs.Balance.{HasAll, SpendsAll};
 ghost use Rattle.exchange.specs.declared.state.State.TheVariants as at;
 

@@ -6,7 +6,7 @@ ghost use Rattle.futures.specs.Task.{Covers, Keeps};
 ghost use Rattle.exchange.specs.Worlds.{world_of};
 ghost use Rattle.exchange.specs.Balance.{HasAll};
 ghost use Rattle.exchange.specs.Exchanging.{Needs, IsFinished, Leaves};
-ghost use Rattle.exchange.specs.Rounds.{IsPolled};
+ghost use Rattle.exchange.specs.Exchanging.{IsPolled};
 
 use crate::exchange::Exchange;
 use crate::wire::{Clock, Dial, Wire};

@@ -1,6 +1,6 @@
 //! One request and its response over a connection of a cache, which is lent to each poll.
 
-ghost use Rattle.std.specs.Prelude.{◌≡◌, ℕ, List, None, Some, true, false, IfSome};
+ghost use Rattle.std.specs.Prelude.{◌≡◌, ◌⊎◌, ℕ, List, None, Some, true, false, IfSome};
 ghost use Rattle.futures.specs.Task.{Keeps};
 ghost use Rattle.futures.specs.Poll.{IfReady, OnPending};
 ghost use Rattle.bundle.specs.Seats.{Tables};
@@ -13,9 +13,9 @@ ghost use Rattle.exchange.specs.Owning.{IsReady, OwnsAt, Owns};
 ghost use Rattle.exchange.specs.Exchanging.{Continues, IsFinished, Leaves, StepEnds};
 ghost use Rattle.exchange.specs.Exchanging.{Cancels, Closes, StaysEnded, GivesUpDial, LeavesDial};
 ghost use Rattle.exchange.specs.Exchanging.{DialsAt, DialsItsOwn};
-ghost use Rattle.exchange.specs.Rounds.{IsPolled};
+ghost use Rattle.exchange.specs.Exchanging.{IsPolled};
 ghost use Rattle.exchange.specs.Balance.{HasAll, SpendsAll};
-ghost use Rattle.exchange.specs.Scheduling.{HasTicket, HasLease, IsAtWire};
+ghost use Rattle.exchange.specs.Waiting.{HasTicket, HasLease, IsAtWire};
 ghost use Rattle.std.specs.Bool.{OnTrue};
 ghost use Rattle.exchange.specs.declared.state.State.TheVariants as at;
 
@@ -69,7 +69,7 @@ impl<W: Wire> Model for Transfer<W> {
 }
 
 // Puts a value into an empty slot.
-pub(crate) fn put<T>(slot: &mut Option<T>, value: T)
+fn put<T>(slot: &mut Option<T>, value: T)
     requires { slot.old ≡ None }
     ensures { slot.new ≡ Some value }
 {
@@ -283,7 +283,7 @@ impl<W: Wire> Transfer<W> {
     }
 
     /// Whether it waits for a connection, with a ticket.
-    pub(crate) fn has_ticket(&self) -> bool
+    pub fn has_ticket(&self) -> bool
         ensures { OnTrue result (HasTicket self.now) }
     {
         matches!(self.state, Some(State::Waiting(_)))
@@ -300,26 +300,28 @@ impl<W: Wire> Transfer<W> {
     }
 
     /// Whether it has a lease or a ticket, so that a close spends it.
-    pub(crate) fn has_any(&self) -> bool {
+    pub fn has_any(&self) -> bool
+        ensures { OnTrue result (HasLease self.now ⊎ HasTicket self.now) }
+    {
         self.has_lease() || self.has_ticket()
     }
 
     /// Whether it waits for its dial or its wire since its last poll, which was pending.
-    pub(crate) fn is_at_wire(&self) -> bool
+    pub fn is_at_wire(&self) -> bool
         ensures { OnTrue result (IsAtWire self.now) }
     {
         !self.has_yielded && self.has_lease()
     }
 
     /// Its transfer number.
-    pub(crate) fn number(&self) -> u64
+    pub fn number(&self) -> u64
         ensures { result ≡ self.now.parts.want.transfer }
     {
         self.parts.transfer()
     }
 
     /// The index of its host.
-    pub(crate) fn site(&self) -> u32
+    pub fn site(&self) -> u32
         ensures { result ≡ self.now.parts.site }
     {
         self.parts.site

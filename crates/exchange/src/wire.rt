@@ -1,7 +1,7 @@
 //! Connections, how they are dialled, and the time.
 
 ghost use Rattle.std.specs.Prelude.{◌≡◌, ℕ, ◌<◌, length};
-ghost use Rattle.conn_key.specs.Wants.{Rises};
+ghost use Rattle.streams.specs.RisingCounts.{Rises};
 
 use crate::ready::{Place, Ready};
 use crate::reason::Reason;

@@ -1,6 +1,6 @@
 -- What happens on a connection in memory.
 use Rattle.std.specs.Prelude.{◌≡◌, ◌⊎◌, ℕ, List, [], ◌++◌, length, take}
-use Rattle.conn_key.specs.Wants.{Rises}
+use Rattle.streams.specs.RisingCounts.{Rises}
 use Rattle.exchange_memory.specs.declared.calls.Halt.TheVariants.{End}
 use Rattle.exchange_memory.specs.declared.memory_wire.MemoryWire.{MemoryWire}
 use Rattle.exchange_memory.specs.Halts.{HaltsWith}

@@ -1,7 +1,7 @@
 //! A connection in memory.
 
 ghost use Rattle.std.specs.Prelude.{◌≡◌, ◌+◌, ◌<◌, ◌≤◌, ℕ, length, max, IfOk};
-ghost use Rattle.conn_key.specs.Wants.{Rises};
+ghost use Rattle.streams.specs.RisingCounts.{Rises};
 
 use crate::calls::{Calls, Halt, NEVER};
 use exchange::{Read, Reason, Wire, Written};

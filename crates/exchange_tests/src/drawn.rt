@@ -2,7 +2,7 @@
 //! many bytes as its path names.
 
 ghost use Rattle.std.specs.Prelude.{◌≡◌, ◌≤◌, length, ⊤};
-ghost use Rattle.conn_key.specs.Wants.{Rises};
+ghost use Rattle.streams.specs.RisingCounts.{Rises};
 
 use bundle::Lease;
 use exchange::{Dial, Dialled, Read, Turned, Wire, Written};

@@ -2,7 +2,7 @@
 
 ghost use Rattle.std.specs.Prelude.{◌≡◌};
 ghost use Rattle.cache.specs.PoolCalls.{home_of};
-ghost use Rattle.exchange.specs.Slabs.{AreKept};
+ghost use Rattle.transfer_slab.specs.Slabs.{AreKept};
 ghost use Rattle.exchange.specs.Worlds.{world_of};
 ghost use Rattle.exchange_memory.specs.Memory.{IsUntouched, HappenedTo};
 
@@ -10,7 +10,7 @@ use crate::checks::check_eq;
 use crate::driving::{MOST_POLLS, NOW, OK, pool_of, prepared_at, want_of, wire_of};
 use cache::Pool;
 use conn_log::Want;
-use exchange::{Place, Ready, Slab};
+use exchange::{Place, Ready};
 use exchange_memory::{FixedClock, Halt, MemoryDial, MemoryWire};
 use futures::task::{Doorbell, Poll, Solo};
 use persistence::Method;
@@ -19,6 +19,7 @@ use std::fmt::Write;
 use std::process::Abort;
 use std::random::RandomSource;
 use std::time::Duration;
+use transfer_slab::Slab;
 
 const CLOCK: FixedClock = FixedClock { now: NOW };
 

@@ -3,7 +3,7 @@
 ghost use Rattle.std.specs.Prelude.{◌≡◌, ⊤};
 ghost use Rattle.cache.specs.PoolCalls.{home_of};
 ghost use Rattle.exchange.specs.Answers.{IsUnused};
-ghost use Rattle.exchange.specs.Slabs.{AreKept};
+ghost use Rattle.transfer_slab.specs.Slabs.{AreKept};
 ghost use Rattle.exchange.specs.Worlds.{world_of};
 
 use crate::checks::check_eq;
@@ -12,13 +12,14 @@ use crate::driving::{prepared_at, want_of};
 use budget::Limits;
 use cache::Pool;
 use conn_log::{Event, Log};
-use exchange::{Done, Fault, Prepared, Slab};
+use exchange::{Done, Fault, Prepared};
 use exchange_memory::FixedClock;
 use futures::task::{Doorbell, Poll, Solo};
 use persistence::Method;
 use std::alloc::AllocGlobal;
 use std::process::Abort;
 use std::time::Duration;
+use transfer_slab::Slab;
 
 const TRANSFERS: u64 = 1_000;
 

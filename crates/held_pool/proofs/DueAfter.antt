@@ -8,8 +8,8 @@ use Rattle.bundle.specs.declared.answers.Acquired.TheVariants.{Lease, Wait}
 use Rattle.bundle.specs.Lease.{lease_number, ticket_want}
 use Rattle.cache.specs.Pools.{PoolShown, host_at, KeepsHosts, StaysPool}
 use Rattle.cache.specs.PoolCalls.{IsCallAt}
-use Rattle.slot_table.specs.declared.place.Place.{Place}
-use Rattle.slot_table.specs.Slots.{place_at, ChangesPlace}
+use Rattle.held_pool.specs.declared.slot_place.Place.{Place}
+use Rattle.held_pool.specs.Slots.{place_at, ChangesPlace}
 use Rattle.held_pool.specs.Due.{holder_of, IsDue, HasNothing, held_at, AreDue}
 
 abbrev pub IsNot : ℕ × ℕ → ℕ × ℕ → Type 0

@@ -11,9 +11,9 @@ use Rattle.cache_trait.specs.Homes.{Gives}
 use Rattle.cache.specs.Pools.{PoolShown, host_at, KeepsHosts, StaysPool}
 use Rattle.cache.specs.PoolCalls.{IsCallAt, DidToPool, home_of}
 use Rattle.cache.proofs.Homes.{made_here, ticket_here}
-use Rattle.slot_table.specs.declared.place.Place.{Place}
-use Rattle.slot_table.specs.declared.slot.Slot.{Slot}
-use Rattle.slot_table.specs.Slots.{SamePlaces, place_at, value_of, value_in, vacated, filled, ChangesPlace, Puts, Takes}
+use Rattle.held_pool.specs.declared.slot_place.Place.{Place}
+use Rattle.held_pool.specs.declared.slot.Slot.{Slot}
+use Rattle.held_pool.specs.Slots.{SamePlaces, place_at, value_of, value_in, vacated, filled, ChangesPlace, Puts, Takes}
 use Rattle.held_pool.specs.Due.{holder_of, IsDue, HasNothing, held_at, AreDue}
 use Rattle.held_pool.proofs.DueAfter.{ChangesOne, changes_one, nothing_due, due_after, IsAlone, itself}
 

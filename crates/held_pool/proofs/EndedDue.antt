@@ -9,8 +9,8 @@ use Rattle.bundle.specs.declared.answers.Acquired.TheVariants.{Lease, Wait}
 use Rattle.cache_trait.specs.CacheCalls.{AllDone}
 use Rattle.cache.specs.Pools.{PoolShown}
 use Rattle.cache.specs.PoolCalls.{DidToPool}
-use Rattle.slot_table.specs.declared.place.Place.{Place}
-use Rattle.slot_table.specs.Slots.{vacated, ChangesPlace}
+use Rattle.held_pool.specs.declared.slot_place.Place.{Place}
+use Rattle.held_pool.specs.Slots.{vacated, ChangesPlace}
 use Rattle.held_pool.specs.Due.{holder_of, IsDue, held_at, AreDue}
 use Rattle.held_pool.specs.Calls.{ending_of, EndsHeld, endings_in}
 use Rattle.held_pool.proofs.DueAfter.{ChangesOne, due_after, held_there, held_else}

@@ -18,7 +18,7 @@ use Rattle.host_state.specs.Steps.{is_exhausted}
 use Rattle.host_rules.specs.Calls.{refusal, is_busy}
 use Rattle.host_rules.specs.Grants.{granted_want}
 use Rattle.bundle.specs.Lease.{HostShown, is_unclaimed}
-use Rattle.pool_rules.specs.AllHosts.{terms, IsAtRest}
+use Rattle.cache.specs.AllHosts.{terms, IsAtRest}
 use Rattle.cache.specs.Pools.{PoolShown, host_at, all_hosts, AreInPlace}
 use Rattle.cache.specs.PoolCalls.{acquire_refusal, IsRefusalOf}
 use Rattle.cache.proofs.OneHost.{log_is}

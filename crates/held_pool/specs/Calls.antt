@@ -16,16 +16,16 @@ use Rattle.cache_trait.specs.CacheCalls.CacheCall.{grants, gives_back, abandons,
 use Rattle.cache_trait.specs.Homes.{Gives}
 use Rattle.cache.specs.Pools.{PoolShown, host_at}
 use Rattle.cache.specs.PoolCalls.{home_of, DidToPool, KeepsTicket, IsRefusalOf}
-use Rattle.slot_table.specs.declared.place.Place.{Place}
-use Rattle.slot_table.specs.declared.slot.Slot.{Slot}
-use Rattle.slot_table.specs.Slots.{value_in, ChangesPlace, SamePlaces, Puts, Takes, filled}
-use Rattle.slot_readers.specs.declared.reader.SlotReader.{SlotReader}
-use Rattle.slot_readers.specs.declared.response.FeedError.{FeedError}
-use Rattle.slot_readers.specs.declared.response.FeedError.TheVariants.{NoReader}
-use Rattle.slot_readers.specs.Readers.{ChangesReader, FeedsSlot, reading_in, TellsFactsOfSome}
-use Rattle.site_table.specs.Hosts.{Hosts}
-use Rattle.held_pool.specs.declared.answers.Got.{Got}
-use Rattle.held_pool.specs.declared.answers.Got.TheVariants as got
+use Rattle.held_pool.specs.declared.slot_place.Place.{Place}
+use Rattle.held_pool.specs.declared.slot.Slot.{Slot}
+use Rattle.held_pool.specs.Slots.{value_in, ChangesPlace, SamePlaces, Puts, Takes, filled}
+use Rattle.held_pool.specs.declared.slot_reader.SlotReader.{SlotReader}
+use Rattle.held_pool.specs.declared.response.FeedError.{FeedError}
+use Rattle.held_pool.specs.declared.response.FeedError.TheVariants.{NoReader}
+use Rattle.held_pool.specs.Readers.{ChangesReader, FeedsSlot, reading_in, TellsFactsOfSome}
+use Rattle.conn_key.specs.Hosts.{Hosts}
+use Rattle.held_pool.specs.declared.answers.SlotAnswer.{SlotAnswer}
+use Rattle.held_pool.specs.declared.answers.SlotAnswer.TheVariants as got
 use Rattle.held_pool.specs.declared.answers.SlotError.{SlotError}
 use Rattle.held_pool.specs.declared.answers.SlotError.TheVariants.{Stranger, Unattached, Attached, Unread}
 
@@ -45,16 +45,16 @@ pub record HasSameRest (old new : HeldShown) : Type 0 where
   pub hosts : new.hosts ≡ old.hosts
 
 -- what the caller is told that its transfer got: a new connection, an idle one with its token, or a wait
-abbrev pub told_stream : Option ℕ → Got
+abbrev pub told_stream : Option ℕ → SlotAnswer
 told_stream None = got.New
 told_stream (Some token) = got.Reused token
 
-abbrev pub got_of : Acquired ℕ → Got
+abbrev pub got_of : Acquired ℕ → SlotAnswer
 got_of (Lease lease) = told_stream lease.stream
 got_of (Wait ticket) = got.Wait
 
 -- an acquire of the pool gave what the slot holds from then on
-pub record AcquiresSlot (old new : HeldShown) (site : ℕ) (want : Want) (now : ℕ) (given : Slot × Got) : Type 0 where
+pub record AcquiresSlot (old new : HeldShown) (site : ℕ) (want : Want) (now : ℕ) (given : Slot × SlotAnswer) : Type 0 where
   pub acquired : Acquired ℕ
   pub is_for : Gives (home_of new.pool) site want acquired
   pub done : GivesBy (DidToPool old.pool new.pool) now acquired
@@ -82,14 +82,14 @@ abbrev pub ClaimsTicket : PoolShown ℕ → PoolShown ℕ → Ticketed → Acqui
 ClaimsTicket old new ticket (Lease lease) = DidToPool old new (grants lease) × (lease.site ≡ ticket.site) × (lease.start.want ≡ ticket.wait.want)
 ClaimsTicket old new ticket (Wait same) = KeepsTicket old new ticket × (same ≡ ticket)
 
-pub record ClaimsSlot (old new : HeldShown) (slot : Slot) (ticket : Ticketed) (got : Got) : Type 0 where
+pub record ClaimsSlot (old new : HeldShown) (slot : Slot) (ticket : Ticketed) (got : SlotAnswer) : Type 0 where
   pub claimed : Acquired ℕ
   pub done : ClaimsTicket old.pool new.pool ticket claimed
   pub changes : ChangesPlace old.places new.places slot.index (filled slot.generation claimed)
   pub told : got ≡ got_of claimed
 
 -- a claim by slot: for a lease, which was claimed before, the same is told again
-abbrev pub ClaimsHeld : HeldShown → HeldShown → Slot → Got → Option (Acquired ℕ) → Type 0
+abbrev pub ClaimsHeld : HeldShown → HeldShown → Slot → SlotAnswer → Option (Acquired ℕ) → Type 0
 ClaimsHeld old new slot got (Some (Lease lease)) = ((new.pool ≡ old.pool) × SamePlaces old.places new.places) × (got ≡ got_of (Lease lease))
 ClaimsHeld old new slot got (Some (Wait ticket)) = ClaimsSlot old new slot ticket got
 ClaimsHeld old new slot got None = ⊥

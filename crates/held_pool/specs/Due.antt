@@ -4,8 +4,8 @@ use Rattle.bundle.specs.declared.answers.Acquired.{Acquired}
 use Rattle.bundle.specs.declared.answers.Acquired.TheVariants.{Lease, Wait}
 use Rattle.bundle.specs.Lease.{HostShown, lease_number, ticket_want}
 use Rattle.cache.specs.Pools.{PoolShown, host_at, IsMadeHere, IsTicketHere}
-use Rattle.slot_table.specs.declared.place.Place.{Place}
-use Rattle.slot_table.specs.Slots.{place_at}
+use Rattle.held_pool.specs.declared.slot_place.Place.{Place}
+use Rattle.held_pool.specs.Slots.{place_at}
 
 -- whose lease or ticket it is: the site, and the transfer
 abbrev pub holder_of : {S : Type 0} → Acquired S → ℕ × ℕ

@@ -1,2 +1,5 @@
 pub mod Due
 pub mod Calls
+pub mod Slots
+pub mod TokenNumbers
+pub mod Readers

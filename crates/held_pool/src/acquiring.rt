@@ -8,11 +8,11 @@ ghost use Rattle.cache.specs.PoolCalls.{DidToPool, IsRefusalOf, home_of};
 ghost use Rattle.held_pool.specs.Due.{HasNothing};
 ghost use Rattle.held_pool.specs.Calls.{got_of, told_stream};
 
-use crate::answers::Got;
+use crate::answers::SlotAnswer;
+use crate::token::Token;
 use budget::Refusal;
 use bundle::{Acquired, Lease};
 use cache::Pool;
-use closed_tokens::Token;
 use conn_log::Want;
 
 // Acquires a connection, or a wait, of a transfer that had nothing at the site.
@@ -36,24 +36,24 @@ pub(crate) fn acquire_from(
 
 // What the caller is told of it.
 #[inline(always)]
-pub(crate) fn got_of(acquired: &mut Acquired<Token>) -> Got
+pub(crate) fn got_of(acquired: &mut Acquired<Token>) -> SlotAnswer
     ensures told { result ≡ got_of acquired.old }
     ensures same { acquired.new ≡ acquired.old }
 {
     match acquired {
         Acquired::Lease(lease) => told_stream(lease),
-        Acquired::Wait(_) => Got::Wait,
+        Acquired::Wait(_) => SlotAnswer::Wait,
     }
 }
 
 // What the caller is told of a lease.
 #[inline(always)]
-fn told_stream(lease: &mut Lease<Token>) -> Got
+fn told_stream(lease: &mut Lease<Token>) -> SlotAnswer
     ensures told { result ≡ told_stream lease.old.stream }
     ensures same { lease.new ≡ lease.old }
 {
     match lease.stream_mut() {
-        None => Got::New,
-        Some(token) => Got::Reused(token.number()),
+        None => SlotAnswer::New,
+        Some(token) => SlotAnswer::Reused(token.number()),
     }
 }

@@ -2,7 +2,7 @@ use thiserror::Error;
 
 /// What a transfer got.
 #[derive(Clone, Copy, Debug, PartialEq, Eq)]
-pub enum Got {
+pub enum SlotAnswer {
     /// A new connection, which the caller dials, and whose token it attaches then.
     New,
     /// A connection that was idle, with this token.

@@ -5,10 +5,10 @@ ghost use Rattle.bundle.specs.declared.answers.Acquired.TheVariants.{Wait};
 ghost use Rattle.held_pool.specs.Due.{IsDue};
 ghost use Rattle.held_pool.specs.Calls.{ClaimsTicket};
 
+use crate::token::Token;
 use bundle::{Acquired, Claimed, Ticket};
 use cache::Pool;
 use cache_trait::Cache;
-use closed_tokens::Token;
 
 // Claims what a ticket was granted; the ticket itself while it still waits.
 #[inline(always)]

@@ -6,11 +6,11 @@ ghost use Rattle.cache.specs.PoolCalls.{DidToPool};
 ghost use Rattle.held_pool.specs.Due.{AreDue, IsDue};
 ghost use Rattle.held_pool.specs.Calls.{EndsHeld, endings_in};
 
+use crate::slot_table::SlotTable;
 use crate::spending::{abandon_from, withdraw_from};
+use crate::token::Token;
 use bundle::Acquired;
 use cache::Pool;
-use closed_tokens::Token;
-use slot_table::SlotTable;
 
 // Abandons the leases and withdraws the tickets, the last place first.
 pub(crate) fn end_all(pool: &mut Pool<Token>, slots: &mut SlotTable<Acquired<Token>>, now: u64)

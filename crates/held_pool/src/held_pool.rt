@@ -4,15 +4,15 @@ ghost use Rattle.std.specs.Prelude.{◌≡◌, ◌⊎◌, [], None, Some, IfErr,
 ghost use Rattle.std.specs.Prelude.{nat_lt, if◌then◌else◌, OnOk, ◌<◌, length, ◌≤◌, true, false};
 ghost use Rattle.host_rules.specs.Calls.{is_queued};
 ghost use Rattle.host_rules.specs.Counts.{snapshot_of};
-ghost use Rattle.pool_rules.specs.Calls.{after_limit_of, after_prune, prune_count};
+ghost use Rattle.cache.specs.Calls.{after_limit_of, after_prune, prune_count};
 ghost use Rattle.cache_trait.specs.CacheCalls.{AllDone};
 ghost use Rattle.cache.specs.Pools.{IsNewPool, all_hosts, host_at};
 ghost use Rattle.conn_log.specs.Counts.{counts as counts_of};
 ghost use Rattle.conn_log.specs.Legal.{IsLegal};
 ghost use Rattle.cache.specs.PoolCalls.{CutsHost, DidToPool, IsCallAtAll, IsReason};
 ghost use Rattle.cache.specs.PoolCalls.{cut_refusal_at, limit_refusal_at};
-ghost use Rattle.slot_table.specs.Slots.{value_in};
-ghost use Rattle.closed_tokens.specs.Numbers.{IsNext};
+ghost use Rattle.held_pool.specs.Slots.{value_in};
+ghost use Rattle.held_pool.specs.TokenNumbers.{IsNext};
 ghost use Rattle.held_pool.specs.Calls.{AbandonsSlot, AcquiresSlot, Attaches, ClaimsHeld};
 ghost use Rattle.held_pool.specs.Calls.{GivesBackSlot, HasSameRest, RefusesSlot, WithdrawsSlot};
 ghost use Rattle.held_pool.specs.Calls.{attach_fault, back_fault, endings_in, lease_fault};
@@ -20,29 +20,32 @@ ghost use Rattle.held_pool.specs.Calls.{BeginsResponse, FeedsHeld, GivesBackRead
 ghost use Rattle.held_pool.specs.Calls.{HoldsSame, is_unused_site, read_fault, reading_for};
 ghost use Rattle.held_pool.specs.Calls.{ticket_fault};
 ghost use Rattle.persistence.specs.Reader.{new_reader};
-ghost use Rattle.slot_readers.specs.Readers.{EndsSlot, SameReaders, TellsSome, reading_in};
-ghost use Rattle.site_table.specs.Giving.{Gives, Refuses};
+ghost use Rattle.held_pool.specs.Readers.{EndsSlot, SameReaders, TellsSome, reading_in};
+ghost use Rattle.conn_key.specs.Giving.{Gives, Refuses};
 ghost use Rattle.held_pool.specs.declared.answers.SlotError.TheVariants as faults;
 
 use crate::acquiring::{acquire_from, got_of};
-use crate::answers::{Got, SlotError};
+use crate::answers::{SlotAnswer, SlotError};
 use crate::claiming::claim_from;
+use crate::closed_tokens::ClosedTokens;
 use crate::closing::end_all;
+use crate::response::{FeedError, Response};
+use crate::slot::Slot;
+use crate::slot_readers::SlotReaders;
+use crate::slot_table::SlotTable;
 use crate::spending::{
     abandon_from, attach_fault, give_back_to, has_lease, has_ticket, lift_lease, take_attached,
     take_lease, take_ticket, withdraw_from,
 };
+use crate::token::Token;
 use crate::used_sites::UsedSites;
 use crate::waiters::Waiters;
 use budget::{Limits, Refusal};
 use bundle::{Acquired, Snapshot};
 use cache::Pool;
-use closed_tokens::{ClosedTokens, Token};
+use conn_key::{PlaceError, PlaceTable};
 use conn_log::{Counts, Entry, Log, Want};
 use persistence::{Facts, Fed, Method};
-use site_table::{PlaceError, SiteTable};
-use slot_readers::{FeedError, Response, SlotReaders};
-use slot_table::{Slot, SlotTable};
 use std::alloc::{AllocError, Global};
 use std::marker::Model;
 
@@ -58,7 +61,7 @@ pub struct HeldPool {
     slots: SlotTable<Acquired<Token>>,
     closed: ClosedTokens,
     readers: SlotReaders,
-    sites: SiteTable,
+    sites: PlaceTable,
     waiters: Waiters,
 }
 
@@ -100,7 +103,7 @@ impl HeldPool {
             slots: SlotTable::new(alloc),
             closed,
             readers: SlotReaders::new(alloc),
-            sites: SiteTable::new(alloc, hosts),
+            sites: PlaceTable::new(alloc, hosts),
             waiters,
         })
     }
@@ -111,7 +114,12 @@ impl HeldPool {
     /// Refused as [`Pool::acquire`] is, and with [`Refusal::Memory`] if there is no memory for a
     /// slot; then nothing changes.
     #[inline(always)]
-    pub fn acquire(&mut self, site: u32, want: Want, now: u64) -> Result<(Slot, Got), Refusal>
+    pub fn acquire(
+        &mut self,
+        site: u32,
+        want: Want,
+        now: u64,
+    ) -> Result<(Slot, SlotAnswer), Refusal>
         ensures ok { IfOk result (AcquiresSlot self.old self.new site want now) }
         ensures refused { IfErr result (RefusesSlot self.old site want) }
         ensures err { OnErr result (self.new ≡ self.old) }
@@ -158,7 +166,7 @@ impl HeldPool {
     /// # Errors
     ///
     /// `Stranger` if the slot has neither a lease nor a ticket; then nothing changes.
-    pub fn claim(&mut self, slot: Slot) -> Result<Got, SlotError>
+    pub fn claim(&mut self, slot: Slot) -> Result<SlotAnswer, SlotError>
         ensures ok { IfOk result (λ got.
             ClaimsHeld self.old self.new slot got (value_in self.old.places slot)) }
         ensures err { IfErr result (λ fault. (fault ≡ faults.Stranger)
@@ -217,8 +225,8 @@ impl HeldPool {
             return false;
         }
         match self.claim(slot) {
-            Ok(Got::New | Got::Reused(_)) => true,
-            Ok(Got::Wait) | Err(_) => false,
+            Ok(SlotAnswer::New | SlotAnswer::Reused(_)) => true,
+            Ok(SlotAnswer::Wait) | Err(_) => false,
         }
     }
 

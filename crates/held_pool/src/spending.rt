@@ -1,7 +1,7 @@
 //! What is taken out of a slot, to be spent.
 
 ghost use Rattle.std.specs.Prelude.{◌≡◌, IfErr, IfOk, OnErr, None, Some, IsSome, true, false};
-ghost use Rattle.slot_table.specs.Slots.{Takes, value_in};
+ghost use Rattle.held_pool.specs.Slots.{Takes, value_in};
 ghost use Rattle.bundle.specs.declared.answers.Acquired.TheVariants as acquired;
 ghost use Rattle.cache_trait.specs.CacheCalls.CacheCall.{abandons, gives_back, withdraws};
 ghost use Rattle.cache.specs.PoolCalls.{DidToPool};
@@ -10,12 +10,13 @@ ghost use Rattle.held_pool.specs.declared.answers.SlotError.TheVariants as fault
 ghost use Rattle.held_pool.specs.Calls.{attach_fault, back_fault, lease_fault, ticket_fault};
 
 use crate::answers::SlotError;
+use crate::slot::Slot;
+use crate::slot_table::SlotTable;
+use crate::token::Token;
 use bundle::{Acquired, Lease, Ticket};
 use cache::Pool;
 use cache_trait::Cache;
-use closed_tokens::Token;
 use persistence::Facts;
-use slot_table::{Slot, SlotTable};
 
 type Slots = SlotTable<Acquired<Token>>;
 

@@ -2,9 +2,9 @@
 
 ghost use Rattle.held_pool.specs.Calls.{is_unused_site};
 
+use crate::token::Token;
 use cache::Pool;
-use closed_tokens::Token;
-use site_table::Places;
+use conn_key::Places;
 
 // The sites of a pool, of which those are unused where no connection is open and nobody waits.
 #[derive(Drop)]

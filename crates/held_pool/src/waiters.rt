@@ -1,7 +1,7 @@
 //! Which slots wait at which site, and which of them may have been granted a connection.
 
-use crate::answers::Got;
-use slot_table::Slot;
+use crate::answers::SlotAnswer;
+use crate::slot::Slot;
 use std::alloc::{AllocError, Global};
 use std::collections::VecDeque;
 
@@ -43,15 +43,15 @@ impl Waiters {
 
     // Notes what a slot was given: it waits, or has a connection. Room for a waiter was made.
     #[inline(always)]
-    pub(crate) fn note_acquire(&mut self, site: u32, slot: Slot, got: Got) {
-        if matches!(got, Got::Wait) {
+    pub(crate) fn note_acquire(&mut self, site: u32, slot: Slot, got: SlotAnswer) {
+        if matches!(got, SlotAnswer::Wait) {
             self.join(site, slot);
         }
     }
 
     // Notes what a waiter was told: it still waits, or has its connection.
-    pub(crate) fn note_claim(&mut self, site: u32, slot: Slot, got: Got) {
-        if !matches!(got, Got::Wait) {
+    pub(crate) fn note_claim(&mut self, site: u32, slot: Slot, got: SlotAnswer) {
+        if !matches!(got, SlotAnswer::Wait) {
             self.leave(site, slot);
         }
     }

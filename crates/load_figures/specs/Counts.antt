@@ -2,7 +2,7 @@
 use Rattle.std.specs.Prelude.{ℕ, ◌+◌, ◌-◌, ◌/◌, ◌^◌, min, Bool, true, false, if◌then◌else◌, ◌&&◌, nat_le, nat_lt, List, [], ◌∷◌, replicate, slice_index, slice_set}
 use Rattle.exchange.specs.declared.done.Done.{Done}
 use Rattle.exchange.specs.declared.done.Fault.{Fault}
-use Rattle.histogram.specs.Tally.{Tally, added, nothing, recorded, values_in}
+use Rattle.load_figures.specs.Tally.{Tally, added, nothing, recorded, values_in}
 use Rattle.load_figures.specs.declared.job_counts.JobCounts.{JobCounts}
 use Rattle.load_figures.specs.declared.outcome.Outcome.{Outcome}
 

@@ -1,8 +1,8 @@
 -- What is counted in the intervals of a load.
 use Rattle.std.specs.Prelude.{◌≡◌, ◌≢◌, ◌⊎◌, ℕ, zero, suc, ◌+◌, ◌-◌, ◌*◌, ◌/◌, ◌^◌, ◌<◌, ◌≤◌, max, min, Bool, List, [], ◌∷◌, Option, Some, None, length, replicate, slice_index, slice_index_or, slice_set, sum, vec_capacity}
 use Rattle.std.specs.Global.{Vec}
-use Rattle.histogram.specs.Buckets.{bucket_of, highest_of}
-use Rattle.histogram.specs.Percentiles.{IsBucketAt}
+use Rattle.load_figures.specs.Buckets.{bucket_of, highest_of}
+use Rattle.load_figures.specs.Percentiles.{IsBucketAt}
 use Rattle.load_figures.specs.Counts.{capped, each_with, more_if}
 
 -- what is counted in one interval: jobs done, those that failed, and of those with a whole response the greatest latency,

@@ -6,5 +6,8 @@ pub mod Counts
 pub mod Intervals
 -- what a worker of a load counts
 pub mod Figures
--- the numbers of a report
-pub mod Reports
+pub mod Buckets
+pub mod Tally
+pub mod Percentiles
+pub mod Laws
+pub mod Worked

@@ -99,7 +99,7 @@ impl Figures {
     }
 
     /// What was counted in each interval.
-    pub(crate) fn intervals(&self) -> &Intervals
+    pub fn intervals(&self) -> &Intervals
         ensures { result.now ≡ self.now.intervals }
     {
         &self.intervals

@@ -2,12 +2,12 @@
 
 ghost use Rattle.std.specs.Prelude.{◌≡◌, ◌+◌, ◌*◌, ◌/◌, ◌<◌, ◌≤◌, length, max, sum, IfNone, IfOk};
 ghost use Rattle.std.specs.Prelude.{IfSome};
-ghost use Rattle.histogram.specs.Percentiles.{IsBucketAt};
+ghost use Rattle.load_figures.specs.Percentiles.{IsBucketAt};
 ghost use Rattle.load_figures.specs.Counts.{capped, each_with};
 ghost use Rattle.load_figures.specs.Intervals.{both, capped_slices, no_interval, slices_in};
 ghost use Rattle.load_figures.specs.Intervals.{with_job, HasSlices, IsLatencyAt};
 
-use histogram::{bucket_of, highest_of};
+use crate::buckets::{bucket_of, highest_of};
 use std::alloc::{AllocError, Global};
 use std::marker::Model;
 
@@ -29,7 +29,7 @@ const GREATEST: u64 = 4_294_967_295;
 /// 3.3 KB, is taken as it is made, but not written before the first latency, since most intervals
 /// of a load have none. A count that would pass its greatest stays there.
 #[derive(Drop)]
-pub(crate) struct Interval {
+pub struct Interval {
     requests: u64,
     failed: u64,
     greatest: u64,
@@ -54,7 +54,7 @@ impl Model for Interval {
 
 impl Interval {
     /// No job yet.
-    pub(crate) fn new(alloc: Global) -> Result<Interval, AllocError>
+    pub fn new(alloc: Global) -> Result<Interval, AllocError>
         ensures { IfOk result (λ interval. interval ≡ no_interval) }
     {
         let slices = Vec::with_capacity(alloc, SLICES)?;
@@ -67,7 +67,7 @@ impl Interval {
     }
 
     /// Counts a job that was done, and its latency if it has a whole response.
-    pub(crate) fn count(&mut self, has_failed: bool, latency_us: Option<u64>)
+    pub fn count(&mut self, has_failed: bool, latency_us: Option<u64>)
         ensures { self.new ≡ with_job has_failed latency_us self.old }
     {
         self.requests = self.requests.saturating_add(1);
@@ -86,7 +86,7 @@ impl Interval {
     }
 
     /// Adds what another interval counted.
-    pub(crate) fn join(&mut self, other: &Interval)
+    pub fn join(&mut self, other: &Interval)
         ensures { self.new ≡ both self.old other.now }
     {
         self.requests = self.requests.saturating_add(other.requests);
@@ -96,7 +96,7 @@ impl Interval {
     }
 
     /// Forgets all that it counted.
-    pub(crate) fn clear(&mut self)
+    pub fn clear(&mut self)
         ensures { self.new ≡ no_interval }
     {
         self.requests = 0;
@@ -106,21 +106,21 @@ impl Interval {
     }
 
     /// How many jobs were done.
-    pub(crate) fn requests(&self) -> u64
+    pub fn requests(&self) -> u64
         ensures { result ≡ self.now.requests }
     {
         self.requests
     }
 
     /// How many of them failed.
-    pub(crate) fn failed(&self) -> u64
+    pub fn failed(&self) -> u64
         ensures { result ≡ self.now.failed }
     {
         self.failed
     }
 
     /// The greatest latency in microseconds, 0 if there is none.
-    pub(crate) fn greatest(&self) -> u64
+    pub fn greatest(&self) -> u64
         ensures { result ≡ self.now.greatest }
     {
         self.greatest
@@ -128,7 +128,7 @@ impl Interval {
 
     /// The latency that so many hundredths of the jobs do not pass, in microseconds: the greatest
     /// of its slice, or the greatest of all latencies if it is less. `None` if there is none.
-    pub(crate) fn latency_at(&self, hundredths: u64) -> Option<u64>
+    pub fn latency_at(&self, hundredths: u64) -> Option<u64>
         ensures { IfSome result (IsLatencyAt self.now hundredths) }
     {
         if self.slices.is_empty() {

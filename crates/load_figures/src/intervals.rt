@@ -18,7 +18,7 @@ const FIRST_LENGTH: u64 = 100_000;
 /// The intervals of a load, each equally long: 100 ms at first. If a job ends past the 600th, each
 /// two become one that is twice as long, and so on. Its memory, some 2 MB, is taken as it is made.
 #[derive(Drop)]
-pub(crate) struct Intervals {
+pub struct Intervals {
     length_us: u64,
     items: Vec<Interval>,
 }
@@ -35,7 +35,7 @@ impl Model for Intervals {
 
 impl Intervals {
     /// No job yet.
-    pub(crate) fn new(alloc: Global) -> Result<Intervals, AllocError>
+    pub fn new(alloc: Global) -> Result<Intervals, AllocError>
         ensures { IfOk result (λ intervals. intervals ≡ no_line) }
     {
         let mut items = Vec::new(alloc);
@@ -50,7 +50,7 @@ impl Intervals {
     }
 
     /// Counts a job that was done, and ended so many microseconds after the load's start.
-    pub(crate) fn count(&mut self, has_failed: bool, ended_us: u64, latency_us: Option<u64>)
+    pub fn count(&mut self, has_failed: bool, ended_us: u64, latency_us: Option<u64>)
         ensures { CountsJob has_failed ended_us latency_us self.old self.new }
     {
         while ended_us / self.length_us() >= INTERVALS as u64 {
@@ -61,7 +61,7 @@ impl Intervals {
     }
 
     /// Adds what another worker counted.
-    pub(crate) fn join(&mut self, other: &Intervals)
+    pub fn join(&mut self, other: &Intervals)
         ensures { JoinsLine self.old other.now self.new }
     {
         let length_us = other.length_us();
@@ -74,7 +74,7 @@ impl Intervals {
     }
 
     /// How long each interval is, in microseconds.
-    pub(crate) fn length_us(&self) -> u64
+    pub fn length_us(&self) -> u64
         ensures length { result ≡ self.now.length_us }
         ensures long { 100000 ≤ result }
     {
@@ -82,7 +82,7 @@ impl Intervals {
     }
 
     /// All intervals, the first of which begins with the load.
-    pub(crate) fn items(&self) -> &[Interval]
+    pub fn items(&self) -> &[Interval]
         ensures { result.now ≡ self.now.items }
     {
         &self.items

@@ -6,9 +6,9 @@ ghost use Rattle.load_figures.specs.Counts.{one_more_at, place_of, sums, with_en
 ghost use Rattle.load_figures.specs.Counts.{with_latency, with_status};
 ghost use Rattle.exchange.specs.declared.done.Done.{Done as Ends};
 
+use crate::histogram::Histogram;
 use crate::outcome::Outcome;
 use exchange::{Answer, Done, Fault};
-use histogram::Histogram;
 use std::alloc::{AllocError, Global};
 
 /// The classes of statuses, in the order of [`JobCounts::statuses`].

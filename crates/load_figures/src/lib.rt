@@ -1,26 +1,21 @@
-//! What a load measures: the figures that its workers count, its report, and the report as a
-//! summary and as JSON.
+//! What a load measures: the figures that its workers count, intervals, and latencies in a histogram
+//! with two significant digits.
 #![tactic(auto)]
 
-mod failing;
+mod buckets;
 mod figures;
+mod histogram;
 mod interval;
 mod intervals;
 mod job_counts;
-mod json;
+pub mod laws;
 mod outcome;
-mod rates;
-mod report;
-mod reporting;
-mod summary;
+pub mod worked;
 
-pub use failing::fails_above;
+pub use buckets::{BUCKETS, bucket_of, highest_of, lowest_of};
 pub use figures::Figures;
+pub use histogram::{Histogram, TooManyValues};
+pub use interval::Interval;
+pub use intervals::Intervals;
 pub use job_counts::{FAULT_NAMES, JobCounts, STATUS_NAMES};
-pub use json::json_text;
 pub use outcome::{Outcome, outcome_of};
-pub use report::{
-    Bucket, Build, Connections, HostRun, IntervalLatency, IntervalReport, JobReport, Latencies,
-    LoadReport, LoadRun, OptionValue, SaidOption,
-};
-pub use summary::Summary;

@@ -3,7 +3,7 @@
 ghost use Rattle.std.specs.Prelude.{◌<◌, length, ⊤};
 ghost use Rattle.cache.specs.PoolCalls.{home_of};
 ghost use Rattle.exchange.specs.Answers.{IsUnused};
-ghost use Rattle.exchange.specs.Slabs.{AreKept};
+ghost use Rattle.transfer_slab.specs.Slabs.{AreKept};
 ghost use Rattle.measures.specs.Told.{all_told};
 
 use crate::counts::{Counts, MeasureError};
@@ -13,12 +13,13 @@ use budget::Limits;
 use cache::Pool;
 use conn_key::{CountedMemory, read_target};
 use conn_log::Want;
-use exchange::{Clock, Done, Ended, Job, Prepared, Slab, Transfer};
+use exchange::{Clock, Done, Job, Prepared, Transfer};
 use futures::task::{Doorbell, Poll, Solo};
 use persistence::Method;
 use std::alloc::{AllocGlobal, Global};
 use std::env::Args;
 use std::random::RandomSource;
+use transfer_slab::{Ended, Slab};
 
 /// The word for transfers alone, one after the other, or while others wait.
 static FORMS: [(&str, bool); 2] = [("transfers", false), ("waiting", true)];

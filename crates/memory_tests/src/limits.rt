@@ -3,14 +3,14 @@
 //! again.
 
 ghost use Rattle.std.specs.Prelude.{◌≡◌, ◌++◌, ◌∷◌, []};
-ghost use Rattle.job_counter.specs.Draws.{first_seat};
+ghost use Rattle.run_loop.specs.Draws.{first_seat};
 
 use crate::checks::check_eq;
 use budget::{
     BudgetSeat, Held, Holders, Limits, Link, Lobby, Pass, Permits, PlainBudget, Refusal, Seen,
     Tally, WordBudget,
 };
-use job_counter::{Claim, ClaimSeat};
+use run_loop::{JobCounter, JobSeat};
 use std::alloc::{AllocGlobal, Global};
 use std::process::Abort;
 
@@ -124,17 +124,17 @@ fn want_of_memory_refuses_what_threads_share(rt: HostRuntime) {
 }
 
 // A counter of two jobs, with its first seat. Where memory runs out the call comes again.
-fn new_claim(rt: &impl Abort, alloc: Global) -> (Claim, ClaimSeat)
+fn new_claim(rt: &impl Abort, alloc: Global) -> (JobCounter, JobSeat)
     ensures seat { result.1 ≡ first_seat result.0 }
 {
-    match Claim::new(alloc, 2) {
+    match JobCounter::new(alloc, 2) {
         Ok(made) => made,
-        Err(_) => Claim::new(alloc, 2).expect(rt, "a claim"),
+        Err(_) => JobCounter::new(alloc, 2).expect(rt, "a claim"),
     }
 }
 
 // Draws, and expects that job.
-fn draw_job(rt: &impl Abort, claim: &Claim, seat: &mut ClaimSeat, job: u64)
+fn draw_job(rt: &impl Abort, claim: &JobCounter, seat: &mut JobSeat, job: u64)
     requires claim { seat.old.claim ≡ claim.now }
     requires not_past { seat.old.past ≡ 0 }
     ensures { seat.new ≡ record seat.old { drawn = seat.old.drawn ++ job ∷ [] } }

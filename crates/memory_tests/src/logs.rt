@@ -6,7 +6,7 @@ use conn_log::{
     Cause, Counts, Entry, Event, Log, LogFault, Stamp, Want, holder, idle_oldest, open_count,
     waiting_len,
 };
-use monitor::HostMonitor;
+use log_judge::HostMonitor;
 use persistence::{Facts, Framing, Version};
 use std::alloc::{AllocError, Global};
 use std::process::Abort;

@@ -4,7 +4,7 @@
 ghost use Rattle.std.specs.Prelude.{IfSome, ◌≡◌};
 ghost use Rattle.cache.specs.PoolCalls.{home_of};
 ghost use Rattle.exchange.specs.Answers.{IsUnused};
-ghost use Rattle.exchange.specs.Slabs.{AreKept};
+ghost use Rattle.transfer_slab.specs.Slabs.{AreKept};
 ghost use Rattle.exchange.specs.Worlds.{world_of as known_of};
 ghost use Rattle.exchange_memory.specs.Memory.{IsUntouched, HappenedTo};
 
@@ -16,7 +16,7 @@ use cache::Pool;
 use cache_trait::Cache;
 use conn_key::{CountedMemory, read_target};
 use conn_log::Want;
-use exchange::{Answer, Done, Exchange, Fault, Job, JobControl, JobRunner, Prepared, Slab};
+use exchange::{Answer, Done, Exchange, Fault, Job, JobControl, JobRunner, Prepared};
 use exchange_memory::{FakeCache, FixedClock, Halt, MemoryDial, MemoryWire};
 use futures::task::{Doorbell, Solo};
 use persistence::Method;
@@ -24,6 +24,7 @@ use std::alloc::{AllocGlobal, Global};
 use std::process::Abort;
 use std::random::RandomSource;
 use std::test::Fail;
+use transfer_slab::Slab;
 
 const RESPONSE: &[u8] = b"HTTP/1.1 200 OK\r\nContent-Length: 2\r\n\r\nok";
 

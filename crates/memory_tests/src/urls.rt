@@ -1,7 +1,7 @@
 //! URLs and sites, out of memory.
 
 ghost use Rattle.std.specs.Prelude.{◌≡◌, ◌≤◌, true};
-ghost use Rattle.conn_key.specs.Wants.{Rises};
+ghost use Rattle.streams.specs.RisingCounts.{Rises};
 
 use crate::checks::check_eq;
 use conn_key::{CountedMemory, KeyError, Sites, SitesFault, TargetMemory, read_target};

@@ -5,13 +5,13 @@
 use cli::{System, SystemNetwork, SystemResolver, load_on_system, look_up_threads, run_program};
 use client::LookUps;
 use command_line::{CountedArgsAlloc, given_words};
-use script_run::{FailureCounted, SystemFiles};
 use std::alloc::Global;
 use std::fs::{self, File};
 use std::io::{self, IsTerminal};
 use std::process::ExitCode;
 use std::sync::Wait;
 use std::thread::{self, Builder, JoinHandle, Scope, scope_env};
+use streams::{FailureCounted, SystemFiles};
 
 /// Takes a descriptor, which can be neither read nor written. One of a standard stream that was
 /// closed would else be the next socket's, and a server would get what is told.

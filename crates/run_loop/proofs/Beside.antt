@@ -4,7 +4,7 @@ use Rattle.std.specs.List.{All}
 use Rattle.std.proofs.lemmas.List.{map-append}
 use Rattle.std.proofs.lemmas.List.Elements.{All-nil, All-cons, All-head, All-tail, All-append}
 use Rattle.std.proofs.lemmas.Bool.{cases_eq}
-use Rattle.job_counter.specs.Draws.{times}
+use Rattle.run_loop.specs.Draws.{times}
 use Rattle.cache_trait.specs.CacheCalls.{CacheCall, AllDone}
 use Rattle.exchange.specs.declared.job.Job.{Job}
 use Rattle.exchange.specs.declared.done.Done.{Done}

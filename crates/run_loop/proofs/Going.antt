@@ -10,15 +10,15 @@ use Rattle.exchange.specs.Dialling.{DialShown}
 use Rattle.exchange.specs.declared.job.Job.{Job}
 use Rattle.exchange.specs.declared.job.Prepared.{Prepared}
 use Rattle.exchange.specs.declared.done.Done.{Done}
-use Rattle.exchange.specs.declared.ended.Ended.{Ended}
+use Rattle.transfer_slab.specs.declared.ended.Ended.{Ended}
 use Rattle.exchange.specs.Transfers.{TransferShown}
 use Rattle.exchange.specs.Answers.{IsPrepared}
 use Rattle.exchange.specs.Worlds.{World}
 use Rattle.exchange.specs.Standing.{StandsAt}
 use Rattle.exchange.specs.Exchanging.{Closes, Cancels}
 use Rattle.exchange.specs.Carrying.{IsForJob}
-use Rattle.exchange.specs.Slabs.{ClosesOne, ClosesPlace, transfers_in}
-use Rattle.exchange.specs.Rounds.{Joins, PollsPlace, PollsPlaces, PollsInTurn}
+use Rattle.transfer_slab.specs.Slabs.{ClosesOne, ClosesPlace, transfers_in}
+use Rattle.transfer_slab.specs.Rounds.{Joins, PollsPlace, PollsPlaces, PollsInTurn}
 use Rattle.run_loop.specs.LoopCalls.{calls_for, all_for}
 use Rattle.run_loop.specs.Endings.{EndsFor}
 use Rattle.run_loop.specs.Running.{number_of, IsUnderWay, IsRunning}

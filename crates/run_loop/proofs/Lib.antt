@@ -6,3 +6,4 @@ pub mod Stories
 pub mod Going
 pub mod RunningOn
 pub mod Timed
+pub mod DrawSteps

@@ -5,7 +5,7 @@ use Rattle.std.proofs.lemmas.List.Elements.{All-head, All-tail, All-cons, All-ni
 use Rattle.std.proofs.lemmas.List.Sums.{sum_by-append}
 use Rattle.std.proofs.lemmas.Bool.Decides.{nat_tests}
 use Rattle.budget.proofs.Sums.{one_if}
-use Rattle.job_counter.specs.Draws.{times}
+use Rattle.run_loop.specs.Draws.{times}
 
 pub times_both : (k : ℕ) (some more : List ℕ) → times k (some ++ more) ≡ times k some + times k more
 times_both k some more = sum_by-append (λ n. one_if (k == n)) some more

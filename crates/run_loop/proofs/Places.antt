@@ -4,7 +4,7 @@ use Rattle.std.proofs.lemmas.List.{append-nil}
 use Rattle.std.proofs.lemmas.List.Elements.{filter_map-append}
 use Rattle.std.proofs.lemmas.Option.{same_Some}
 use Rattle.exchange.specs.Transfers.{TransferShown}
-use Rattle.exchange.specs.Slabs.{transfers_in}
+use Rattle.transfer_slab.specs.Slabs.{transfers_in}
 
 -- the transfers in front of a place and behind it, where a transfer stands there, where another stands there, and where
 -- none does

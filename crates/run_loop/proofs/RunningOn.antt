@@ -10,12 +10,12 @@ use Rattle.exchange.specs.declared.job.Job.{Job}
 use Rattle.exchange.specs.declared.job.Prepared.{Prepared}
 use Rattle.exchange.specs.declared.done.Fault.TheVariants.{Memory, Dial, Read, Write, BadResponse, Cut, Refused, Cancelled}
 use Rattle.exchange.specs.declared.done.Done.{Done}
-use Rattle.exchange.specs.declared.ended.Ended.{Ended}
+use Rattle.transfer_slab.specs.declared.ended.Ended.{Ended}
 use Rattle.exchange.specs.declared.done.Done.TheVariants.{Good, Bad}
 use Rattle.exchange.specs.Transfers.{TransferShown}
 use Rattle.exchange.specs.Worlds.{World}
-use Rattle.exchange.specs.Slabs.{ClosesOne, ClosesPlace, HasNumberAt, transfers_in, one_if_some}
-use Rattle.exchange.specs.Rounds.{PollsInTurn}
+use Rattle.transfer_slab.specs.Slabs.{ClosesOne, ClosesPlace, HasNumberAt, transfers_in, one_if_some}
+use Rattle.transfer_slab.specs.Rounds.{PollsInTurn}
 use Rattle.run_loop.specs.declared.run_end.RunEnd.{RunEnd}
 use Rattle.run_loop.specs.declared.run_end.RunEnd.TheVariants.{Complete, Stopped, TurnFailed, BrokenOff}
 use Rattle.run_loop.specs.Endings.{EndsFor}

@@ -1,13 +1,13 @@
 -- How a run goes on over one cache, and how it ends.
 use Rattle.std.specs.Prelude.{◌≡◌, ℕ, ◌<◌, List, [], ◌∷◌, ◌++◌, Option, sum_by, Bool, true, false, nat_le, if◌then◌else◌}
 use Rattle.std.specs.List.{All}
-use Rattle.conn_key.specs.Wants.{Rises}
+use Rattle.streams.specs.RisingCounts.{Rises}
 use Rattle.cache_trait.specs.CacheCalls.{CacheCall}
 use Rattle.exchange.specs.declared.job.Job.{Job}
 use Rattle.exchange.specs.declared.done.Done.{Done}
 use Rattle.exchange.specs.Transfers.{TransferShown}
 use Rattle.exchange.specs.Worlds.{World}
-use Rattle.exchange.specs.Slabs.{transfers_in, one_if_some}
+use Rattle.transfer_slab.specs.Slabs.{transfers_in, one_if_some}
 use Rattle.run_loop.specs.declared.run_end.RunEnd.{RunEnd}
 use Rattle.run_loop.specs.declared.run_end.RunEnd.TheVariants.{Complete, Stopped, TurnFailed, BrokenOff}
 use Rattle.run_loop.specs.Running.{IsRunning}

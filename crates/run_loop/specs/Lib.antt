@@ -7,3 +7,5 @@ pub mod Moments
 pub mod Going
 pub mod Room
 pub mod Steps
+pub mod Draws
+pub mod Rule

@@ -1,7 +1,7 @@
 -- How far a run over one cache is: which jobs were drawn, which are under way, and which have results.
 use Rattle.std.specs.Prelude.{◌≡◌, ℕ, ◌+◌, ◌≤◌, List, [], map, IsSomeAnd}
 use Rattle.std.specs.List.{All}
-use Rattle.job_counter.specs.Draws.{times}
+use Rattle.run_loop.specs.Draws.{times}
 use Rattle.cache_trait.specs.CacheCalls.{CacheCall, AllDone}
 use Rattle.exchange.specs.declared.job.Job.{Job}
 use Rattle.exchange.specs.declared.done.Done.{Done}

@@ -4,7 +4,7 @@ use Rattle.exchange.specs.declared.job.Job.{Job}
 use Rattle.exchange.specs.declared.job.Prepared.{Prepared}
 use Rattle.exchange.specs.Transfers.{TransferShown}
 use Rattle.exchange.specs.Answers.{IsPrepared}
-use Rattle.exchange.specs.Rounds.{Joins}
+use Rattle.transfer_slab.specs.Rounds.{Joins}
 use Rattle.run_loop.specs.declared.run_loop.Next.{Next}
 use Rattle.run_loop.specs.declared.run_loop.Next.TheVariants.{Never}
 

@@ -1,7 +1,10 @@
-//! A worker's loop: any number of jobs at once over one cache, each carried out by a transfer.
+//! A worker's loop: any number of jobs at once over one cache, each carried out by a transfer. The
+//! numbers of the jobs are drawn from a counter that workers share.
 #![tactic(auto)]
 
 mod begins;
+mod job_counter;
+mod job_draws;
 mod jobs;
 mod late;
 mod results;
@@ -12,6 +15,7 @@ mod time_limit;
 mod timer;
 mod until;
 
+pub use job_counter::{JobCounter, JobSeat};
 pub use jobs::{Draw, Jobs};
 pub use results::{Results, Span};
 pub use run_end::RunEnd;

@@ -4,7 +4,7 @@ ghost use Rattle.std.specs.Prelude.{◌≡◌, ◌≤◌, ◌<◌, ℕ, List, []
 ghost use Rattle.std.specs.Prelude.{None, replicate};
 ghost use Rattle.exchange.specs.Dialling.{CountsTurn, failed_turns};
 ghost use Rattle.exchange.specs.Worlds.{world_of};
-ghost use Rattle.exchange.specs.Slabs.{AreKept, one_if_some};
+ghost use Rattle.transfer_slab.specs.Slabs.{AreKept, one_if_some};
 ghost use Rattle.run_loop.specs.Going.{rules_of, rules_at, point, RunsOn, RunsOnWith, RunsToEnd};
 ghost use Rattle.run_loop.specs.Going.{MayClose, IfStopped, IfComplete, IfIncomplete, TurnsAt};
 ghost use Rattle.run_loop.specs.Moments.{AreReadings, TakesTimed};
@@ -21,11 +21,12 @@ use crate::time_limit::LimitStarts;
 use crate::timer::Timer;
 use crate::until::Until;
 use cache_trait::Cache;
-use exchange::{Dial, Done, Ended, Fault, Slab, Turned, Wire};
+use exchange::{Dial, Done, Fault, Turned, Wire};
 use futures::task::{Context, Poll, Solo};
 use std::alloc::{AllocError, Global};
 use std::sync::Wait;
 use std::time::Duration;
+use transfer_slab::{Ended, Slab};
 
 /// Time between two sweeps, in microseconds.
 const SWEEP_MICROS: u64 = 10_000;

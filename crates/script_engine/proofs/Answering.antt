@@ -7,16 +7,16 @@ use Rattle.conn_log.specs.Connections.{is_among, held_number}
 use Rattle.host_rules.specs.declared.snapshot.Snapshot.{Snapshot}
 use Rattle.host_rules.specs.Calls.{refusal, limit_refusal, is_queued, Reply, starts, waits_on, Start, Wait}
 use Rattle.host_rules.specs.Counts.{snapshot_of}
-use Rattle.pool_rules.specs.AllHosts.{AllHosts, log_at, terms}
-use Rattle.pool_rules.specs.Calls.{after_acquire, reply_of, after_giving_back, after_abandoning, after_limit_of}
-use Rattle.pool_rules.specs.Laws.{AnswersWant}
-use Rattle.pool_rules.proofs.Replies.{acquire_starts_or_waits}
+use Rattle.cache.specs.AllHosts.{AllHosts, log_at, terms}
+use Rattle.cache.specs.Calls.{after_acquire, reply_of, after_giving_back, after_abandoning, after_limit_of}
+use Rattle.cache.specs.Laws.{AnswersWant}
+use Rattle.cache.proofs.Replies.{acquire_starts_or_waits}
 use Rattle.script_text.specs.declared.command.Action.{Action}
 use Rattle.script_text.specs.declared.command.Action.TheVariants as actions
 use Rattle.script_text.specs.declared.command.Ending.{Ending}
 use Rattle.script_text.specs.declared.fault.FaultKind.{FaultKind}
 use Rattle.script_text.specs.Printing.{GivesText, refused, claimed_line, still_line, look_line}
-use Rattle.script_rules.specs.Meaning.{AtSite, AnswerAt, replied, grown, stranger, lines_of_growth, with_ticket, without_ticket, claimed_number, refusal_word, tickets_with, after_getting, get_at, get_unless, claim_at, claim_of, back_at, back_of, drop_at, drop_of, leave_at, after_leaving, limit_word, limit_at, limit_unless, look_at, act_at, facts_of_ending}
+use Rattle.script_engine.specs.Meaning.{AtSite, AnswerAt, replied, grown, stranger, lines_of_growth, with_ticket, without_ticket, claimed_number, refusal_word, tickets_with, after_getting, get_at, get_unless, claim_at, claim_of, back_at, back_of, drop_at, drop_of, leave_at, after_leaving, limit_word, limit_at, limit_unless, look_at, act_at, facts_of_ending}
 use Rattle.script_engine.specs.Hosted.{IsUntold, Gives}
 
 -- where memory fails only what is told, all hosts are as the action makes them

@@ -12,14 +12,14 @@ use Rattle.conn_log.specs.Connections.{is_among, held_number}
 use Rattle.conn_log.specs.Sound.{IsSound}
 use Rattle.budget.specs.Limits.{Bounds}
 use Rattle.bundle.specs.Lease.{HostShown, Leasing, Ticketed, lease_number}
-use Rattle.pool_rules.specs.AllHosts.{AllHosts, log_at}
-use Rattle.pool_rules.specs.Calls.{after_withdrawing}
-use Rattle.script_rules.specs.Meaning.{AtSite, with_ticket, without_ticket}
+use Rattle.cache.specs.AllHosts.{AllHosts, log_at}
+use Rattle.cache.specs.Calls.{after_withdrawing}
+use Rattle.script_engine.specs.Meaning.{AtSite, with_ticket, without_ticket}
 use Rattle.script_engine.specs.Hosted.{KeepsLeases, KeepsTickets, lease_facts, whereabouts, kept_facts, leases_of, tickets_of, is_ticket_first, merged}
-use Rattle.script_rules.specs.Ending.{has_either, after_dropping, after_giving_up, after_all_at}
+use Rattle.script_engine.specs.Ending.{has_either, after_dropping, after_giving_up, after_all_at}
 use Rattle.script_engine.proofs.Tickets.{among-keys}
 use Rattle.script_engine.proofs.Spending.{leased-by-keys}
-use Rattle.script_rules.proofs.TicketLists.{among-with}
+use Rattle.script_engine.proofs.TicketLists.{among-with}
 
 -- each of them is above that one
 abbrev IsBelow : ℕ → List ℕ → Type 0

@@ -10,8 +10,8 @@ use Rattle.conn_log.specs.Connections.{is_among, held_number}
 use Rattle.conn_log.specs.Sound.{IsSound}
 use Rattle.host_rules.specs.Calls.{refusal, Reply, Start, starts, Wait, waits_on}
 use Rattle.bundle.specs.Lease.{HostShown, Leasing, Ticketed, is_unclaimed, lease_number, ticket_want, is_valid_ticket, GetsLease, GetsTicket, WasGranted}
-use Rattle.pool_rules.specs.AllHosts.{AllHosts, log_at, terms, IsAtRest}
-use Rattle.pool_rules.specs.Calls.{after_acquire, reply_of, after_abandoning, after_withdrawing}
+use Rattle.cache.specs.AllHosts.{AllHosts, log_at, terms, IsAtRest}
+use Rattle.cache.specs.Calls.{after_acquire, reply_of, after_abandoning, after_withdrawing}
 use Rattle.bundle.specs.declared.answers.Acquired.TheVariants as gives
 use Rattle.cache.specs.Pools.{PoolShown, host_at, all_hosts, IsAcquired, IsTicketHere, AreInPlace, StaysHost, StaysPool, KeepsOtherHosts}
 use Rattle.cache.specs.PoolCalls.{acquire_refusal}
@@ -21,12 +21,12 @@ use Rattle.cache.proofs.Keeping.{stays_host_on, keeps_others_on}
 use Rattle.script_text.specs.declared.command.Action.{Action}
 use Rattle.script_text.specs.declared.fault.FaultKind.{FaultKind}
 use Rattle.script_text.specs.declared.fault.FaultKind.TheVariants.{Memory}
-use Rattle.script_rules.specs.Meaning.{AtSite, AnswerAt, with_ticket, without_ticket, get_at, claim_at}
-use Rattle.script_rules.specs.Ending.{after_dropping, after_giving_up}
+use Rattle.script_engine.specs.Meaning.{AtSite, AnswerAt, with_ticket, without_ticket, get_at, claim_at}
+use Rattle.script_engine.specs.Ending.{after_dropping, after_giving_up}
 use Rattle.script_engine.specs.Hosted.{IsUntold, Gives, lease_facts, KeepsDue, KeepsLeases, KeepsTickets, leases_of, tickets_of, due_others}
-use Rattle.script_rules.specs.Telling.{AllGrowAfter}
+use Rattle.script_engine.specs.Telling.{AllGrowAfter}
 use Rattle.script_engine.specs.declared.site_leases.SiteLeases.{SiteLeases}
-use Rattle.script_rules.proofs.TicketLists.{turned, among-with}
+use Rattle.script_engine.proofs.TicketLists.{turned, among-with}
 use Rattle.script_engine.proofs.Leases.{itself, accepted-free, free-none, leased-held, ticket-no-lease, still-unheld, kept-valid, same-whereabouts, kept-due, leases-same}
 use Rattle.script_engine.proofs.Spending.{IsTicketFor, sound-at, ticketed, kept-ticket, lease-awaits, ticket-awaits, lease-own, lease-no-ticket, ticket-own, started-kept, claimed-kept}
 use Rattle.script_engine.proofs.GrowthOfAll.{same-grow, abandoned-grow, withdrawn-grow}

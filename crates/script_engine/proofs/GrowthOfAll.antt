@@ -20,16 +20,16 @@ use Rattle.host_rules.specs.Calls.{becomes_idle, kept_limit, starts_due, is_queu
 use Rattle.host_rules.specs.Effects.{asks_for_one}
 use Rattle.bundle.specs.Lease.{HostShown}
 use Rattle.host_rules.proofs.Transfers.{held_here}
-use Rattle.pool_rules.specs.AllHosts.{AllHosts, log_at, terms, total, has_room, can_keep, total_waiting, oldest_of_all, closed_of, without_oldest, after_turn_of, with_room, turn_of_first, may_turn, after_turns, served, IsLawful}
-use Rattle.pool_rules.specs.Calls.{with_tidied, with_room_for, told_of_total, acquired, after_acquire, with_room_to_keep, given_back, after_giving_back, abandoned, after_abandoning, withdrawn, after_withdrawing, pruned_log, pruned, after_prune, limited, after_limit_of}
-use Rattle.pool_rules.specs.Laws.{Grow}
+use Rattle.cache.specs.AllHosts.{AllHosts, log_at, terms, total, has_room, can_keep, total_waiting, oldest_of_all, closed_of, without_oldest, after_turn_of, with_room, turn_of_first, may_turn, after_turns, served, IsLawful}
+use Rattle.cache.specs.Calls.{with_tidied, with_room_for, told_of_total, acquired, after_acquire, with_room_to_keep, given_back, after_giving_back, abandoned, after_abandoning, withdrawn, after_withdrawing, pruned_log, pruned, after_prune, limited, after_limit_of}
+use Rattle.cache.specs.Laws.{Grow}
 use Rattle.cache.specs.Pools.{PoolShown, host_at, logs_of, all_hosts, StaysHost, StaysHosts, KeepsOtherHosts}
 use Rattle.cache.proofs.OneHost.{log_is}
-use Rattle.pool_rules.proofs.Evictions.{MayLoseOldest, loses_none, may_lose, still_wanted}
+use Rattle.cache.proofs.Evictions.{MayLoseOldest, loses_none, may_lose, still_wanted}
 use Rattle.script_text.specs.Printing.{lines_since}
-use Rattle.script_rules.specs.Meaning.{lines_from, lines_of_growth}
-use Rattle.script_rules.specs.Telling.{GrowsAfter, AllGrowAfter, lines_told, WereTold}
-use Rattle.script_rules.proofs.Growth.{lines-grown, grown-by, grows-on, grows-none, closed-grows, without-grows, acquired-grows, given_back-grows, abandoned-grows, withdrawn-grows, turn-grows, pruned-grows, limited-grows, holder-is}
+use Rattle.script_engine.specs.Meaning.{lines_from, lines_of_growth}
+use Rattle.script_engine.specs.Telling.{GrowsAfter, AllGrowAfter, lines_told, WereTold}
+use Rattle.script_engine.proofs.Growth.{lines-grown, grown-by, grows-on, grows-none, closed-grows, without-grows, acquired-grows, given_back-grows, abandoned-grows, withdrawn-grows, turn-grows, pruned-grows, limited-grows, holder-is}
 
 -- nothing happens, and one growth comes after another
 pub same-grow : (by : ℕ) (all : AllHosts) → AllGrowAfter by all all

@@ -20,8 +20,8 @@ use Rattle.host_rules.specs.Calls.{refusal, is_busy}
 use Rattle.host_state.specs.Queue.{waiting_want}
 use Rattle.bundle.specs.Lease.{HostShown, StaysThere, is_unclaimed, lease_number, ticket_want, is_same_want, is_valid_ticket}
 use Rattle.host_rules.specs.Grants.{granted_want}
-use Rattle.pool_rules.specs.AllHosts.{log_at}
-use Rattle.script_rules.specs.Meaning.{AtSite, claimed_number}
+use Rattle.cache.specs.AllHosts.{log_at}
+use Rattle.script_engine.specs.Meaning.{AtSite, claimed_number}
 use Rattle.bundle.specs.Seats.{Tables}
 use Rattle.script_engine.specs.Hosted.{whereabouts, kept_facts, leases_of, TicketFacts, wanted_at, tickets_of, due_others}
 use Rattle.script_engine.proofs.Tickets.{at-key}

@@ -13,16 +13,16 @@ use Rattle.std.proofs.Math.ListN.{get_or-map}
 use Rattle.budget.specs.Limits.{Bounds}
 use Rattle.conn_log.specs.declared.entry.Entry.{Entry}
 use Rattle.bundle.specs.Lease.{HostShown, IsNewHost, Leasing, Ticketed}
-use Rattle.pool_rules.specs.AllHosts.{AllHosts, terms}
-use Rattle.pool_rules.specs.Calls.{after_prune}
+use Rattle.cache.specs.AllHosts.{AllHosts, terms}
+use Rattle.cache.specs.Calls.{after_prune}
 use Rattle.cache.specs.Pools.{PoolShown, IsNewPool, host_in, host_at, logs_of, all_hosts, KeepsHosts, KeepsOtherHosts, StaysPool}
 use Rattle.script_text.specs.Printing.{GivesText, upkeep_line}
 use Rattle.script_text.specs.declared.command.Action.{Action}
 use Rattle.script_text.specs.declared.fault.FaultKind.{FaultKind}
 use Rattle.script_text.specs.declared.command.HostCommand.TheVariants as asks
 use Rattle.script_engine.specs.declared.site_leases.SiteLeases.{SiteLeases}
-use Rattle.script_rules.specs.Meaning.{new_hosts, at_site, act_at, grown, replied, lines_of_growth, asked_answer, prune_all, upkeep_all}
-use Rattle.script_rules.specs.Telling.{AllGrowAfter, WereTold, lines_told}
+use Rattle.script_engine.specs.Meaning.{new_hosts, at_site, act_at, grown, replied, lines_of_growth, asked_answer, prune_all, upkeep_all}
+use Rattle.script_engine.specs.Telling.{AllGrowAfter, WereTold, lines_told}
 use Rattle.script_engine.specs.Hosted.{Hosted, Gives, GivesAt, GivesAll, KeepsDue, KeepsAllDue, NoneIsCut, AreHosted, NothingIsKept, kept_at, tickets_kept, lease_facts, leases_of, tickets_of, wanted}
 use Rattle.script_engine.proofs.Answering.{gives-answer, gives-grown}
 use Rattle.script_engine.proofs.GrowthOfAll.{lines-of-growth, were-told, pruned-grow}

@@ -9,12 +9,12 @@ use Rattle.conn_log.specs.Connections.{is_among, is_held_by}
 use Rattle.conn_log.specs.Sound.{IsSound}
 use Rattle.std.proofs.lemmas.List.{length-map}
 use Rattle.bundle.specs.Lease.{HostShown, Leasing, Ticketed, lease_number, ticket_want, Spends, GetsLease, GetsTicket, KeepsAll}
-use Rattle.pool_rules.specs.AllHosts.{AllHosts, log_at, terms, IsAtRest}
+use Rattle.cache.specs.AllHosts.{AllHosts, log_at, terms, IsAtRest}
 use Rattle.bundle.specs.Seats.{Tables}
 use Rattle.cache.specs.Pools.{PoolShown, host_at, all_hosts, AreInPlace, IsMadeHere, IsTicketHere, KeepsHost}
 use Rattle.cache.proofs.OneHost.{log_is}
 use Rattle.script_engine.specs.declared.site_leases.SiteLeases.{SiteLeases}
-use Rattle.script_rules.specs.Meaning.{claimed_number}
+use Rattle.script_engine.specs.Meaning.{claimed_number}
 use Rattle.script_engine.specs.Hosted.{Keeps, KeepsDue, KeepsLeases, KeepsTickets, LeaseFacts, lease_facts, whereabouts, kept_facts, leases_of, wanted, wanted_at, tickets_of, due_others}
 use Rattle.script_engine.proofs.Tickets.{among-keys}
 use Rattle.script_engine.proofs.Leases.{held-passes, leased-held, leased-no-ticket, ticket-no-lease, leased-by-tickets, own-ticket, kept-due, kept-removed, kept-awaits, none-stays, same-whereabouts, leases-left, leases-same, leases-started, tickets-left, tickets-same, tickets-started, due-ticket, itself}

@@ -12,8 +12,8 @@ use Rattle.conn_log.specs.Connections.{is_among, held_number}
 use Rattle.conn_log.specs.Legal.{LimitAndFirst}
 use Rattle.conn_log.specs.Sound.{IsSound}
 use Rattle.bundle.specs.Lease.{HostShown, Leasing, Ticketed, lease_number, is_valid_ticket, Spends}
-use Rattle.pool_rules.specs.AllHosts.{AllHosts, terms, log_at, IsAtRest}
-use Rattle.pool_rules.specs.Calls.{after_giving_back, after_abandoning, after_withdrawing}
+use Rattle.cache.specs.AllHosts.{AllHosts, terms, log_at, IsAtRest}
+use Rattle.cache.specs.Calls.{after_giving_back, after_abandoning, after_withdrawing}
 use Rattle.cache.specs.Pools.{PoolShown, host_at, all_hosts, AreInPlace, StaysHost, KeepsOtherHosts, StaysPool, IsMadeHere, IsTicketHere, logs_of}
 use Rattle.cache.proofs.OneHost.{log_is}
 use Rattle.script_text.specs.declared.command.Action.{Action}
@@ -22,8 +22,8 @@ use Rattle.script_text.specs.declared.fault.FaultKind.{FaultKind}
 use Rattle.script_text.specs.Printing.{GivesText, refused}
 use Rattle.script_engine.specs.declared.site_leases.SiteLeases.{SiteLeases}
 use Rattle.script_engine.specs.Hosted.{KeepsDue, KeepsAllDue, NoneIsCut, AreHosted, GivesAt, kept_at, lease_facts}
-use Rattle.script_rules.specs.Telling.{AllGrowAfter, WereTold, lines_told}
-use Rattle.script_rules.specs.Meaning.{AtSite, act_at, claimed_number, back_at, drop_at, leave_at, grown, stranger, facts_of_ending, without_ticket}
+use Rattle.script_engine.specs.Telling.{AllGrowAfter, WereTold, lines_told}
+use Rattle.script_engine.specs.Meaning.{AtSite, act_at, claimed_number, back_at, drop_at, leave_at, grown, stranger, facts_of_ending, without_ticket}
 use Rattle.script_engine.proofs.Tickets.{among-keys, keys-removed}
 use Rattle.script_engine.proofs.Leases.{leased-held, same-whereabouts, kept-valid}
 use Rattle.script_engine.proofs.GrowthOfAll.{given-back-grow, abandoned-grow, withdrawn-grow}

@@ -9,7 +9,7 @@ use Rattle.std.specs.BTreeMap.{is_at, insert_entry}
 use Rattle.std.proofs.lemmas.Bool.{eqb-true}
 use Rattle.std.proofs.lemmas.Bool.Decides.{nat_tests}
 use Rattle.conn_log.specs.Connections.{is_among}
-use Rattle.script_rules.specs.Meaning.{with_ticket, without_ticket}
+use Rattle.script_engine.specs.Meaning.{with_ticket, without_ticket}
 use Rattle.script_engine.specs.Hosted.{is_ticket_first}
 
 -- the query for a number finds that number

@@ -9,13 +9,13 @@ use Rattle.std.proofs.lemmas.List.{get_or-set_other, get_or_default, length-set,
 use Rattle.std.proofs.lemmas.Map.Keys.{IsStrictlyIncreasing-from_sorted}
 use Rattle.std.proofs.lemmas.Option.{slice_get_within, slice_get_cases}
 use Rattle.budget.specs.Limits.{Bounds}
-use Rattle.pool_rules.specs.AllHosts.{IsAtRest}
+use Rattle.cache.specs.AllHosts.{IsAtRest}
 use Rattle.cache.specs.Pools.{PoolShown, host_at, logs_of, all_hosts, AreInPlace, KeepsOtherHosts, StaysPool}
 use Rattle.cache.proofs.Keeping.{stays_pool, stays_pool_on}
 use Rattle.cache.proofs.OneHost.{log_is}
 use Rattle.script_engine.specs.declared.site_leases.SiteLeases.{SiteLeases}
-use Rattle.script_rules.specs.Meaning.{AtSite}
-use Rattle.script_rules.specs.Ending.{AreThoseLeft, after_all_at, after_all_from, IsEnding}
+use Rattle.script_engine.specs.Meaning.{AtSite}
+use Rattle.script_engine.specs.Ending.{AreThoseLeft, after_all_at, after_all_from, IsEnding}
 use Rattle.script_engine.specs.Hosted.{KeepsDue, KeepsAllDue, NothingIsKept, kept_at, tickets_kept, merged}
 use Rattle.script_engine.proofs.Ending.{sorted-merged, each-left}
 use Rattle.script_engine.proofs.Spending.{sound-at}

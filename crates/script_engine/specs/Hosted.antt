@@ -8,8 +8,8 @@ use Rattle.bundle.specs.Seats.{Tables}
 use Rattle.bundle.specs.Lease.{HostShown, Leasing, Ticketed, lease_number, ticket_want}
 use Rattle.conn_log.specs.declared.entry.Want.{Want}
 use Rattle.cache.specs.Pools.{PoolShown, host_at, all_hosts, logs_of}
-use Rattle.script_rules.specs.Meaning.{ScriptHosts, AtSite, at_site, with_site_as, with_ticket, Answer, get_at, claim_at, limit_at, act_at}
-use Rattle.script_rules.specs.Ending.{after_giving_up}
+use Rattle.script_engine.specs.Meaning.{ScriptHosts, AtSite, at_site, with_site_as, with_ticket, Answer, get_at, claim_at, limit_at, act_at}
+use Rattle.script_engine.specs.Ending.{after_giving_up}
 use Rattle.script_engine.specs.declared.site_leases.SiteLeases.{SiteLeases}
 use Rattle.script_text.specs.Printing.{GivesText}
 use Rattle.script_text.specs.declared.command.Action.{Action}

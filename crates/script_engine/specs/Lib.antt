@@ -1,1 +1,12 @@
 pub mod Hosted
+pub mod Ending
+pub mod Law
+pub mod Meaning
+pub mod Telling
+pub mod Transcript
+pub mod TranscriptLines
+pub mod Worked
+pub mod Traces
+pub mod Running
+pub mod RunFiles
+pub mod ReadScripts

@@ -1,7 +1,7 @@
 //! What a response's ending says of its connection.
 
 ghost use Rattle.std.specs.Prelude.{◌≡◌};
-ghost use Rattle.script_rules.specs.Meaning.{facts_of_ending};
+ghost use Rattle.script_engine.specs.Meaning.{facts_of_ending};
 
 use persistence::{Facts, Framing, Version};
 use script_text::Ending;

@@ -6,9 +6,9 @@ ghost use Rattle.budget.specs.Limits.{Bounds};
 ghost use Rattle.cache.specs.Pools.{all_hosts, StaysPool};
 ghost use Rattle.script_text.specs.declared.command.Action.TheVariants as actions;
 ghost use Rattle.script_text.specs.declared.command.HostCommand.TheVariants as asks;
-ghost use Rattle.pool_rules.specs.AllHosts.{log_at};
-ghost use Rattle.script_rules.specs.Meaning.{asked_answer, new_hosts, at_site};
-ghost use Rattle.script_rules.specs.Ending.{IsEnding};
+ghost use Rattle.cache.specs.AllHosts.{log_at};
+ghost use Rattle.script_engine.specs.Meaning.{asked_answer, new_hosts, at_site};
+ghost use Rattle.script_engine.specs.Ending.{IsEnding};
 ghost use Rattle.script_engine.specs.Hosted.{GivesAt, GivesAll};
 ghost use Rattle.script_engine.specs.Hosted.{KeepsAllDue, NothingIsKept, tickets_kept};
 

@@ -1,7 +1,7 @@
 //! What one line of a script does.
 
 ghost use Rattle.std.specs.Prelude.{◌≡◌, ◌⊎◌, IfErr, string_bytes};
-ghost use Rattle.script_rules.specs.Transcript.{line_step, Answers};
+ghost use Rattle.script_engine.specs.Transcript.{line_step, Answers};
 
 use crate::machine::Machine;
 use script_text::{FaultKind, read_line};
@@ -9,7 +9,7 @@ use std::alloc::Global;
 
 /// Does what a line says, and gives the lines that tell of it. Nothing changes where that is
 /// refused, but for want of memory.
-#[tactic(auto, unfolding(script_rules::specs::Transcript::line_step))]
+#[tactic(auto, unfolding(crate::specs::Transcript::line_step))]
 pub fn line_text<M: Machine>(
     alloc: Global,
     machine: &mut M,

@@ -3,14 +3,14 @@
 ghost use Rattle.std.specs.Prelude.{◌≡◌, ◌<◌, ◌≤◌, ◌⊎◌, IfErr, IfOk, OnOk, IfNone, IfSome, length};
 ghost use Rattle.std.specs.Prelude.{IsSome, Some, None, true, string_bytes};
 ghost use Rattle.cache.specs.Pools.{all_hosts};
-ghost use Rattle.pool_rules.specs.AllHosts.{log_at};
+ghost use Rattle.cache.specs.AllHosts.{log_at};
 ghost use Rattle.script_text.specs.Printing.{GivesText};
 ghost use Rattle.script_text.specs.declared.command.Limits.{Limits};
-ghost use Rattle.script_rules.specs.Meaning.{Run, start, step, begun, with_limits, with_url};
-ghost use Rattle.script_rules.specs.Meaning.{with_answer, at_script_end, at_no_host, are_good};
-ghost use Rattle.script_rules.specs.Meaning.{asked_answer, bounds_given};
-ghost use Rattle.script_rules.specs.Ending.{IsEnding};
-ghost use Rattle.script_rules.specs.Transcript.{Answers};
+ghost use Rattle.script_engine.specs.Meaning.{Run, start, step, begun, with_limits, with_url};
+ghost use Rattle.script_engine.specs.Meaning.{with_answer, at_script_end, at_no_host, are_good};
+ghost use Rattle.script_engine.specs.Meaning.{asked_answer, bounds_given};
+ghost use Rattle.script_engine.specs.Ending.{IsEnding};
+ghost use Rattle.script_engine.specs.Transcript.{Answers};
 ghost use Rattle.script_engine.specs.Hosted.{GivesAt, AnswersAsked};
 
 use crate::hosts::PooledHosts;
@@ -24,7 +24,7 @@ use std::mem;
 
 /// A machine that runs a script's commands.
 pub trait Machine {
-    ghost use Rattle.script_rules.specs.Meaning.{Run};
+    ghost use Rattle.script_engine.specs.Meaning.{Run};
 
     /// The state of the run after the commands so far.
     ghost run: { Self → Run };
@@ -58,7 +58,7 @@ impl Model for Engine {
     ghost use Rattle.std.specs.Prelude.{◌≡◌, None, true, false, if◌then◌else◌, IfSome};
     ghost use Rattle.std.specs.Option.{option_map, option_map_or};
     ghost use Rattle.script_engine.specs.Hosted.{Hosted};
-    ghost use Rattle.script_rules.specs.Meaning.{Run, new_hosts, bounds_given, are_good};
+    ghost use Rattle.script_engine.specs.Meaning.{Run, new_hosts, bounds_given, are_good};
 
     ghost Value = { Run };
 
@@ -78,7 +78,7 @@ impl Model for Engine {
 impl Machine for Engine {
     ghost run = { λ e. e };
 
-    #[tactic(auto, unfolding(script_rules::specs::Meaning::step))]
+    #[tactic(auto, unfolding(crate::specs::Meaning::step))]
     fn answer(&mut self, command: Command<'_>) -> Result<String, FaultKind> {
         match command {
             Command::Limits(limits) => self.set_limits(limits),

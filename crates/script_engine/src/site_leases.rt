@@ -8,18 +8,18 @@ ghost use Rattle.std.specs.BTreeMap.{get, keys, btree_map_len, IsEmpty, IsOrdere
 ghost use Rattle.persistence.specs.declared.facts.Facts.{Facts};
 ghost use Rattle.host_rules.specs.Calls.{refusal};
 ghost use Rattle.bundle.specs.Lease.{lease_number, ticket_want, is_valid_ticket, Spends};
-ghost use Rattle.pool_rules.specs.AllHosts.{terms, log_at};
-ghost use Rattle.pool_rules.specs.Calls.{after_abandoning, after_withdrawing};
+ghost use Rattle.cache.specs.AllHosts.{terms, log_at};
+ghost use Rattle.cache.specs.Calls.{after_abandoning, after_withdrawing};
 ghost use Rattle.cache.specs.Pools.{all_hosts, host_at, StaysHost, StaysPool, KeepsOtherHosts};
 ghost use Rattle.cache.specs.Pools.{IsMadeHere, IsTicketHere};
 ghost use Rattle.script_text.specs.declared.command.Action.TheVariants as actions;
-ghost use Rattle.script_rules.specs.Meaning.{facts_of_ending, with_ticket, get_at, back_at};
-ghost use Rattle.script_rules.specs.Meaning.{drop_at, leave_at, grown, stranger};
-ghost use Rattle.script_rules.specs.Ending.{after_giving_up, after_all_at, AreThoseLeft};
+ghost use Rattle.script_engine.specs.Meaning.{facts_of_ending, with_ticket, get_at, back_at};
+ghost use Rattle.script_engine.specs.Meaning.{drop_at, leave_at, grown, stranger};
+ghost use Rattle.script_engine.specs.Ending.{after_giving_up, after_all_at, AreThoseLeft};
 ghost use Rattle.script_engine.specs.Hosted.{Gives, IsUntold, kept_at, KeepsDue, merged};
 ghost use Rattle.script_engine.specs.Hosted.{KeepsLeases, KeepsTickets, leases_of, tickets_of};
 ghost use Rattle.script_engine.specs.Hosted.{due_others, lease_facts, whereabouts, is_ticket_first};
-ghost use Rattle.script_rules.specs.Telling.{AllGrowAfter};
+ghost use Rattle.script_engine.specs.Telling.{AllGrowAfter};
 
 use crate::facts::facts_of_ending;
 use budget::Refusal;

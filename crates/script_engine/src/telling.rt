@@ -3,7 +3,7 @@
 ghost use Rattle.std.specs.Prelude.{◌≡◌, ◌<◌, ◌≤◌, map, flat_map, drop, reverse, length};
 ghost use Rattle.std.specs.Prelude.{string_bytes};
 ghost use Rattle.script_text.specs.Printing.{GivesText, entry_line};
-ghost use Rattle.script_rules.specs.Telling.{WereTold, lines_told, AddsText};
+ghost use Rattle.script_engine.specs.Telling.{WereTold, lines_told, AddsText};
 ghost use Rattle.cache.specs.Pools.{logs_of, host_at};
 ghost use Rattle.script_engine.specs.Hosted.{NoneIsCut};
 

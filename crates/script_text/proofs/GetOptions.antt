@@ -1,7 +1,7 @@
 -- The first option of a get, and those after it.
 use Rattle.std.proofs.Common.{◌≡◌, ℕ, ◌≤◌, ◌^◌, true, false, cond, List, [], ◌∷◌, length, ap, ◌∙◌, arith, Option, Some, None}
 use Rattle.std.specs.Option.{option_map}
-use Rattle.script_text.specs.Words.{number, number_first}
+use Rattle.streams.specs.Words.{number, number_first}
 use Rattle.script_text.specs.Grammar.{◌>>=◌, options_of, takes_number, with_number, with_word}
 use Rattle.script_text.specs.declared.options.Options.{Options}
 

@@ -1,5 +1,2 @@
-pub mod Splits
-pub mod LineSplits
-pub mod Numbers
 pub mod GetOptions
 pub mod Sites

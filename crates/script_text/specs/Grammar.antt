@@ -3,7 +3,7 @@ use Rattle.std.specs.Prelude.{ℕ, ◌^◌, Bool, true, false, ◌||◌, ◌==�
 use Rattle.std.specs.Option.{option_map}
 use Rattle.std.specs.Str.{bytes_eq}
 use Rattle.conn_log.specs.declared.entry.Want.{Want}
-use Rattle.script_text.specs.Words.{words, number, number_first, text_first, is_none_left}
+use Rattle.streams.specs.Words.{words, number, number_first, text_first, is_none_left}
 use Rattle.script_text.specs.declared.options.Options.{Options}
 use Rattle.script_text.specs.declared.command.Ending.{Ending}
 use Rattle.script_text.specs.declared.command.Ending.TheVariants.{Keep, Close, Old, OldKeep, Eof, Cut, Surplus}

@@ -1,5 +1,4 @@
-pub mod Lines
-pub mod Words
 pub mod Grammar
 pub mod Site
 pub mod Printing
+pub mod Faults

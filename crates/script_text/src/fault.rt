@@ -1,3 +1,7 @@
+ghost use Rattle.std.specs.Prelude.{◌≡◌};
+ghost use Rattle.script_text.specs.Faults.{kind_of};
+
+use streams::StreamFault;
 use thiserror::Error;
 
 /// What is wrong with a script, or kept it from being run.
@@ -36,6 +40,18 @@ pub enum FaultKind {
     /// There are 1,024 other sites already.
     #[error("too many sites")]
     TooManySites,
+}
+
+impl From<StreamFault> for FaultKind {
+    fn from(fault: StreamFault) -> FaultKind
+        ensures { result ≡ kind_of fault }
+    {
+        match fault {
+            StreamFault::Memory => FaultKind::Memory,
+            StreamFault::Read => FaultKind::Read,
+            StreamFault::Write => FaultKind::Write,
+        }
+    }
 }
 
 /// Where a script ended, and why.

@@ -1,5 +1,5 @@
 ghost use Rattle.std.specs.Prelude.{◌≡◌};
-ghost use Rattle.script_text.specs.Words.{words};
+ghost use Rattle.streams.specs.Words.{words};
 ghost use Rattle.script_text.specs.Grammar.{ending_of, ending_first, if_none_left, limits_form};
 ghost use Rattle.script_text.specs.Grammar.{site_form, get_form, claim_form, back_form, drop_form};
 ghost use Rattle.script_text.specs.Grammar.{leave_form, look_form, command_of, reading};
@@ -10,7 +10,7 @@ use crate::command::{Action, Command, Ending, HostCommand, Limits};
 use crate::fault::FaultKind;
 use crate::options::{read_options, want_of};
 use crate::site::SiteWord;
-use crate::words::{first_word, is_blank, is_word, text_first, u32_first, u64_first};
+use streams::{first_word, is_blank, is_word, text_first, u32_first, u64_first};
 
 /// Reads how a response ended, and gives the rest of the line.
 fn ending_first(line: &[u8]) -> Option<(Ending, &[u8])>

@@ -5,22 +5,15 @@
 mod command;
 mod fault;
 mod grammar;
-mod lines;
 mod options;
 mod printing;
 mod replies;
 mod site;
-mod words;
 
 pub use command::{Action, Command, Ending, HostCommand, Limits};
 pub use fault::{FaultKind, ScriptFault};
 pub use grammar::{LINE_LIMIT, command_of, read_line};
-pub use lines::first_line;
 pub use options::DEFAULT_MAX_AGE;
 pub use printing::LookLine;
 pub use replies::{claimed, lines_since, reply, still_waiting, too_many_leased, upkeep};
 pub use site::SiteWord;
-pub use words::{
-    first_word, is_blank, is_word, number_of, place_of, small_number_of, text_first, u32_first,
-    u64_first,
-};

@@ -2,13 +2,13 @@
 
 ghost use Rattle.std.specs.Prelude.{◌≡◌, ◌≤◌, ◌∷◌, length, MatchOption, None};
 ghost use Rattle.conn_log.specs.declared.entry.Want.{Want};
-ghost use Rattle.script_text.specs.Words.{words};
+ghost use Rattle.streams.specs.Words.{words};
 ghost use Rattle.script_text.specs.Grammar.{no_options, options_of, takes_number, with_age};
 ghost use Rattle.script_text.specs.Grammar.{with_life, with_number, with_fresh, with_forbid};
 ghost use Rattle.script_text.specs.Grammar.{with_word, want_of};
 
-use crate::words::{first_word, is_word, u64_first};
 use conn_log::Want;
+use streams::{first_word, is_word, u64_first};
 
 /// The default maximum idle age of a reused connection, in seconds: that of libcurl's
 /// CURLOPT_MAXAGE_CONN.

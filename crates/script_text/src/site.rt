@@ -2,7 +2,7 @@
 
 ghost use Rattle.std.specs.Prelude.{◌≡◌, ◌⊎◌, None, Some, IfOk, IfErr};
 ghost use Rattle.conn_key.specs.Site.{site_of};
-ghost use Rattle.conn_key.specs.Wants.{Rises};
+ghost use Rattle.streams.specs.RisingCounts.{Rises};
 ghost use Rattle.script_text.specs.Site.{site_named, fault_of};
 
 use crate::fault::FaultKind;

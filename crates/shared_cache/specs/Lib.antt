@@ -7,3 +7,6 @@ pub mod Inspecting
 pub mod Counting
 pub mod Gathering
 pub mod Laws
+pub mod Desks
+pub mod DeskCalls
+pub mod DeskLaws

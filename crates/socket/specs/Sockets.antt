@@ -1,7 +1,7 @@
 -- What happens on a connection over a socket, and what it does to what is known of it.
 use Rattle.std.specs.Prelude.{◌≡◌, ◌≢◌, ℕ, Bool, true, false, List, Contains}
 use Rattle.std.specs.declared.net.socket_addr.SocketAddr.{SocketAddr}
-use Rattle.conn_key.specs.Wants.{Rises}
+use Rattle.streams.specs.RisingCounts.{Rises}
 use Rattle.exchange.specs.Wires.{Happening}
 use Rattle.exchange.specs.Wires.Happening.{nothing, is_adopted, takes, gives, ends, fails_to_read, fails_to_write}
 use Rattle.socket.specs.declared.connection.Condition.{Condition}

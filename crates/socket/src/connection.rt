@@ -4,7 +4,7 @@ ghost use Rattle.std.specs.Prelude.{◌≡◌, ◌≢◌, ◌<◌, length, true,
 ghost use Rattle.exchange.specs.Wires.{Reads, Writes};
 ghost use Rattle.exchange.specs.Wires.Happening.{is_adopted};
 ghost use Rattle.exchange.specs.Dialling.{OnReadFault, OnWriteFault};
-ghost use Rattle.conn_key.specs.Wants.{Rises};
+ghost use Rattle.streams.specs.RisingCounts.{Rises};
 ghost use Rattle.socket.specs.Sockets.{IsUntouched, IsDialledTo, HappensTo, Fails, Judges};
 ghost use Rattle.socket.specs.declared.connection.Condition.TheVariants.{Unfit};
 ghost use Rattle.socket.specs.Streams.{HappensOver, KeepsUnwritten};

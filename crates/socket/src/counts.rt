@@ -1,7 +1,7 @@
 //! What a dial counts.
 
 ghost use Rattle.std.specs.Prelude.{◌≡◌};
-ghost use Rattle.conn_key.specs.Wants.{Rises};
+ghost use Rattle.streams.specs.RisingCounts.{Rises};
 ghost use Rattle.exchange.specs.Dialling.{CountsDial, IfUp, OpensOne};
 ghost use Rattle.socket.specs.Pending.{IfNotYet};
 

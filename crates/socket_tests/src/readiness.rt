@@ -2,7 +2,7 @@
 
 ghost use Rattle.cache.specs.PoolCalls.{home_of};
 ghost use Rattle.exchange.specs.Answers.{IsUnused};
-ghost use Rattle.exchange.specs.Slabs.{AreKept};
+ghost use Rattle.transfer_slab.specs.Slabs.{AreKept};
 ghost use Rattle.exchange.specs.Worlds.{world_of};
 
 use crate::checks::check_eq;
@@ -11,14 +11,13 @@ use crate::peer::{Behaviour, Peer};
 use crate::requests::{peer_of, prepared};
 use budget::Limits;
 use cache::Pool;
-use exchange::{
-    Alarm, Clock, Dial, Dialled, Done, Place, Prepared, Read, Ready, Slab, Wire, Written,
-};
+use exchange::{Alarm, Clock, Dial, Dialled, Done, Place, Prepared, Read, Ready, Wire, Written};
 use futures::task::{Doorbell, Poll, Solo};
 use socket::{PolledDial, PolledWire, SystemClock};
 use std::alloc::{AllocGlobal, Global};
 use std::process::Abort;
 use std::time::Duration;
+use transfer_slab::Slab;
 
 /// More polls and turns than a request here takes.
 const MOST: u32 = 200;

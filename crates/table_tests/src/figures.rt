@@ -3,9 +3,8 @@
 
 use crate::checks::check_eq;
 use exchange::{Answer, Done, Fault};
-use load_figures::{
-    Build, Connections, Figures, HostRun, LoadReport, LoadRun, Outcome, fails_above, outcome_of,
-};
+use load_figures::{Figures, Outcome, outcome_of};
+use load_report::{Build, Connections, HostRun, LoadReport, LoadRun, fails_above};
 use persistence::{Facts, Framing, Version};
 use std::alloc::{AllocError, Global};
 use std::test::Fail;

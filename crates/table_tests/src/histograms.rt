@@ -1,7 +1,7 @@
 //! Percentiles, sums and means of small histograms.
 
 use crate::checks::check_eq;
-use histogram::{BUCKETS, Histogram, bucket_of, highest_of, lowest_of};
+use load_figures::{BUCKETS, Histogram, bucket_of, highest_of, lowest_of};
 use std::alloc::AllocGlobal;
 use std::process::Abort;
 

@@ -3,8 +3,8 @@
 use crate::checks::check_eq;
 use crate::figures::two_hosts;
 use crate::pictures::{check_marks, count};
-use load_figures::{Bucket, Figures, IntervalLatency, IntervalReport, Latencies, LoadReport};
-use load_picture::picture_of;
+use load_figures::Figures;
+use load_report::{Bucket, IntervalLatency, IntervalReport, Latencies, LoadReport, picture_of};
 use std::alloc::{AllocError, Global};
 
 /// The most bytes of a picture.

@@ -2,9 +2,10 @@
 
 use crate::checks::check_eq;
 use crate::figures::{six_jobs, two_hosts};
-use load_figures::{
-    Build, Connections, Figures, JobReport, Latencies, LoadReport, OptionValue, SaidOption,
-    Summary, json_text,
+use load_figures::Figures;
+use load_report::{
+    Build, Connections, JobReport, Latencies, LoadReport, OptionValue, SaidOption, Summary,
+    json_text,
 };
 use std::alloc::{AllocError, Global};
 

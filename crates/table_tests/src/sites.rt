@@ -3,7 +3,7 @@
 ghost use Rattle.std.specs.Prelude.{not, slice_get, true, unwrap_or};
 
 use crate::checks::check_eq;
-use site_table::{PlaceError, Places, SiteTable};
+use conn_key::{PlaceError, PlaceTable, Places};
 use std::alloc::AllocError;
 
 /// A cache of which contracts know which places are in use: those that it names, and none past
@@ -43,7 +43,7 @@ static STEPS: [Step; 10] = [
 
 #[test]
 fn a_place_changes_its_host_only_while_unused(rt: HostRuntime) {
-    let mut table = SiteTable::new(rt.alloc(), 3);
+    let mut table = PlaceTable::new(rt.alloc(), 3);
     for (number, step) in STEPS.iter().enumerate() {
         let (key, places, expected) = step;
         let cache = InUse { places };
@@ -61,7 +61,7 @@ fn a_place_changes_its_host_only_while_unused(rt: HostRuntime) {
 
 #[test]
 fn a_cache_without_places_gives_none(rt: HostRuntime) {
-    let mut table = SiteTable::new(rt.alloc(), 0);
+    let mut table = PlaceTable::new(rt.alloc(), 0);
     let cache = InUse { places: &[] };
     check_eq(&rt, table.place("a:80", &cache), Err(PlaceError::Full));
 }
@@ -78,7 +78,7 @@ fn errors_say_why(rt: HostRuntime) {
 /// given its place as it asks again.
 #[test]
 fn an_allocation_failure_changes_no_place(rt: HostRuntime) {
-    let mut table = SiteTable::new(rt.alloc(), 2);
+    let mut table = PlaceTable::new(rt.alloc(), 2);
     let places = [false, false];
     let cache = InUse { places: &places };
     let keys = [("a:80", 0), ("b:80", 1), ("c:80", 0)];

@@ -3,7 +3,7 @@
 
 ghost use Rattle.std.specs.Prelude.{◌≡◌, ⊤};
 ghost use Rattle.std.specs.Prelude.{length, ◌≤◌};
-ghost use Rattle.conn_key.specs.Wants.{Rises};
+ghost use Rattle.streams.specs.RisingCounts.{Rises};
 ghost use Rattle.exchange.specs.Wires.{Reads};
 ghost use Rattle.exchange.specs.Dialling.{OnReadFault};
 

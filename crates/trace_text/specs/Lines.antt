@@ -5,7 +5,7 @@ use Rattle.std.specs.List.{position_or_len}
 use Rattle.std.specs.Str.{bytes_eq}
 use Rattle.conn_log.specs.declared.entry.Cause.{Cause}
 use Rattle.conn_log.specs.declared.entry.Cause.TheVariants.{NotPersistent, Cut, Forbidden, TooOld, HostRoom, TotalRoom, CacheFull, Dropped, Withdrawn, Pruned}
-use Rattle.script_text.specs.Words.{words, number, number_first, text_first, is_none_left}
+use Rattle.streams.specs.Words.{words, number, number_first, text_first, is_none_left}
 use Rattle.script_text.specs.Grammar.{◌>>=◌, command_of, is_comment, LONGEST_LINE}
 use Rattle.script_text.specs.Printing.{cause_word}
 use Rattle.script_text.specs.declared.command.Command.{Command}

@@ -1,6 +1,6 @@
 ghost use Rattle.std.specs.Prelude.{◌≡◌};
 ghost use Rattle.std.specs.Option.{option_map};
-ghost use Rattle.script_text.specs.Words.{words};
+ghost use Rattle.streams.specs.Words.{words};
 ghost use Rattle.trace_text.specs.Lines.{connection_of, connection_first, cause_of, cause_first};
 ghost use Rattle.trace_text.specs.Lines.{moment_first, if_blank, order_form, rest_form, start_of};
 ghost use Rattle.trace_text.specs.Lines.{start_form, closed_form, wait_form, line_of_command};
@@ -8,9 +8,10 @@ ghost use Rattle.trace_text.specs.Lines.{is_reply, line_named, trace_reading};
 
 use crate::line::{Line, Traced, TracedEvent};
 use conn_log::Cause;
-use script_text::{
-    Action, Command, FaultKind, HostCommand, LINE_LIMIT, command_of, first_word, is_blank, is_word,
-    number_of, place_of, small_number_of, text_first, u32_first, u64_first,
+use script_text::{Action, Command, FaultKind, HostCommand, LINE_LIMIT, command_of};
+use streams::{
+    first_word, is_blank, is_word, number_of, place_of, small_number_of, text_first, u32_first,
+    u64_first,
 };
 
 /// Reads a word `H.C`: the host and the number of a connection.

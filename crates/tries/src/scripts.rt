@@ -17,11 +17,12 @@ use crate::scripts::errors::{ScriptError, print_error};
 use crate::scripts::heads::{Head, MOST_LINES, read_head};
 use crate::scripts::site_leases::{NoStream, SiteLeases};
 use crate::statuses::{BAD_WORDS, PASSED};
-use script_text::{FaultKind, ScriptFault, first_line};
+use script_text::{FaultKind, ScriptFault};
 use shared_cache::{Names, Plan, SharedCache};
 use std::io::Write;
 use std::marker::Brand;
 use std::sync::Wait;
+use streams::first_line;
 
 /// Runs the script of the named file, or of standard input, and prints its transcript. Returns the
 /// status.

@@ -3,10 +3,8 @@
 use crate::checks::check_eq;
 use budget::{Limits, Refusal};
 use conn_log::Want;
-use held_pool::{Got, HeldPool, SlotError};
+use held_pool::{FeedError, HeldPool, Slot, SlotAnswer, SlotError};
 use persistence::{Facts, Fed, Framing, Method, Version};
-use slot_readers::FeedError;
-use slot_table::Slot;
 use std::alloc::AllocGlobal;
 use std::process::Abort;
 
@@ -58,7 +56,7 @@ fn close(held: HeldPool, left: u32) -> bool {
 fn a_connection_is_reused_with_its_token(rt: HostRuntime) {
     let mut held = pool_of(&rt);
     let (slot, got) = held.acquire(0, want_of(1), 0).expect(&rt, "a lease");
-    check_eq(&rt, got, Got::New);
+    check_eq(&rt, got, SlotAnswer::New);
     check_eq(
         &rt,
         held.give_back_as(slot, facts_of(true), 1),
@@ -70,7 +68,7 @@ fn a_connection_is_reused_with_its_token(rt: HostRuntime) {
         held.attach(rt.alloc(), slot, 78),
         Err(SlotError::Attached),
     );
-    check_eq(&rt, held.claim(slot), Ok(Got::Reused(77)));
+    check_eq(&rt, held.claim(slot), Ok(SlotAnswer::Reused(77)));
     check_eq(&rt, held.give_back_as(slot, facts_of(true), 1), Ok(()));
     // A second use of the slot is a stranger's.
     check_eq(
@@ -81,7 +79,7 @@ fn a_connection_is_reused_with_its_token(rt: HostRuntime) {
     check_eq(&rt, held.abandon(slot, 1), Err(SlotError::Stranger));
     check_eq(&rt, held.claim(slot), Err(SlotError::Stranger));
     let (again, got) = held.acquire(0, want_of(2), 2).expect(&rt, "a lease");
-    check_eq(&rt, got, Got::Reused(77));
+    check_eq(&rt, got, SlotAnswer::Reused(77));
     assert!(rt; again != slot);
     check_eq(&rt, held.next_closed(), None);
     check_eq(&rt, held.give_back_as(again, facts_of(false), 3), Ok(()));
@@ -96,10 +94,10 @@ fn a_waiter_claims_what_came_back(rt: HostRuntime) {
     let (first, _) = held.acquire(0, want_of(1), 0).expect(&rt, "a lease");
     check_eq(&rt, held.attach(rt.alloc(), first, 5), Ok(()));
     let (waiter, got) = held.acquire(0, want_of(2), 0).expect(&rt, "a ticket");
-    check_eq(&rt, got, Got::Wait);
+    check_eq(&rt, got, SlotAnswer::Wait);
     let (other, got) = held.acquire(0, want_of(3), 0).expect(&rt, "a ticket");
-    check_eq(&rt, got, Got::Wait);
-    check_eq(&rt, held.claim(waiter), Ok(Got::Wait));
+    check_eq(&rt, got, SlotAnswer::Wait);
+    check_eq(&rt, held.claim(waiter), Ok(SlotAnswer::Wait));
     check_eq(
         &rt,
         held.give_back_as(waiter, facts_of(true), 1),
@@ -107,7 +105,7 @@ fn a_waiter_claims_what_came_back(rt: HostRuntime) {
     );
     check_eq(&rt, held.withdraw(first, 1), Err(SlotError::Stranger));
     check_eq(&rt, held.give_back_as(first, facts_of(true), 1), Ok(()));
-    check_eq(&rt, held.claim(waiter), Ok(Got::Reused(5)));
+    check_eq(&rt, held.claim(waiter), Ok(SlotAnswer::Reused(5)));
     check_eq(&rt, held.withdraw(other, 2), Ok(()));
     check_eq(&rt, held.withdraw(other, 2), Err(SlotError::Stranger));
     check_eq(&rt, held.abandon(waiter, 2), Ok(()));
@@ -225,12 +223,12 @@ fn waiters_are_told_in_their_order(rt: HostRuntime) {
     check_eq(&rt, held.give_back_as(first, facts_of(true), 1), Ok(()));
     check_eq(&rt, held.granted(), Some(second));
     check_eq(&rt, held.granted(), None);
-    check_eq(&rt, held.claim(second), Ok(Got::Reused(5)));
+    check_eq(&rt, held.claim(second), Ok(SlotAnswer::Reused(5)));
     // One that withdraws, or claims by itself, is not told.
     check_eq(&rt, held.withdraw(third, 1), Ok(()));
     check_eq(&rt, held.granted(), None);
     check_eq(&rt, held.abandon(second, 2), Ok(()));
-    check_eq(&rt, held.claim(fourth), Ok(Got::New));
+    check_eq(&rt, held.claim(fourth), Ok(SlotAnswer::New));
     check_eq(&rt, held.granted(), None);
     check_eq(&rt, held.abandon(fourth, 2), Ok(()));
     check_eq(&rt, held.next_closed(), Some(5));
@@ -245,17 +243,17 @@ fn waiters_of_each_site_are_told(rt: HostRuntime) {
     let (second, _) = held.acquire(0, want_of(2), 0).expect(&rt, "a lease");
     // The total is at its limit: the others wait for turns.
     let (third, got) = held.acquire(1, want_of(3), 0).expect(&rt, "a ticket");
-    check_eq(&rt, got, Got::Wait);
+    check_eq(&rt, got, SlotAnswer::Wait);
     let (fourth, got) = held.acquire(2, want_of(4), 0).expect(&rt, "a ticket");
-    check_eq(&rt, got, Got::Wait);
+    check_eq(&rt, got, SlotAnswer::Wait);
     check_eq(&rt, held.abandon(first, 1), Ok(()));
     check_eq(&rt, held.abandon(second, 1), Ok(()));
     // Each of them is told once.
     assert!(rt; held.granted().is_some());
     assert!(rt; held.granted().is_some());
     assert!(rt; held.granted().is_none());
-    assert!(rt; held.claim(third) == Ok(Got::New));
-    assert!(rt; held.claim(fourth) == Ok(Got::New));
+    assert!(rt; held.claim(third) == Ok(SlotAnswer::New));
+    assert!(rt; held.claim(fourth) == Ok(SlotAnswer::New));
     check_eq(&rt, held.counts(0).expect(&rt, "counts").opened, 2);
     assert!(rt; held.counts(3).is_err());
     let part = held.cut(0).expect(&rt, "memory");

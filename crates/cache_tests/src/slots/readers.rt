@@ -1,9 +1,8 @@
 //! Readers of responses by slot.
 
 use crate::checks::check_eq;
+use held_pool::{FeedError, Slot, SlotReaders};
 use persistence::{Fed, Method, ReadFault};
-use slot_readers::{FeedError, SlotReaders};
-use slot_table::Slot;
 
 const RESPONSE: &[u8] = b"HTTP/1.1 200 OK\r\nContent-Length: 3\r\n\r\nabc";
 

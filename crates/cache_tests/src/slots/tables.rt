@@ -1,8 +1,7 @@
 //! Slots of a table, and tokens that were dropped.
 
 use crate::checks::check_eq;
-use closed_tokens::ClosedTokens;
-use slot_table::{Slot, SlotTable};
+use held_pool::{ClosedTokens, Slot, SlotTable};
 use std::alloc::AllocError;
 
 /// Puts a value into a new slot, for which room is made before.

@@ -6,10 +6,10 @@ use crate::file_fault::{FileAction, file_fault_text};
 use crate::loading::failure::LoadFailure;
 use crate::loading::fault::OUT_OF_MEMORY;
 use command_line::LoadPlan;
-use script_run::FailureCounted;
 use std::alloc::Global;
 use std::fs::{self, File};
 use std::io::{Error, ErrorKind};
+use streams::FailureCounted;
 
 /// The files that a load writes, if they are named.
 #[derive(Drop)]

@@ -1,7 +1,7 @@
 //! The report of a load.
 
 ghost use Rattle.std.specs.Prelude.{◌≡◌, ◌↔◌, IsTrue, IfOk, string_bytes};
-ghost use Rattle.load_figures.specs.Reports.{IsReportOf};
+ghost use Rattle.load_report.specs.Reports.{IsReportOf};
 ghost use Rattle.load_figures.specs.declared.job_counts.JobCounts.{JobCounts};
 ghost use Rattle.cli.specs.LoadStatuses.{load_status};
 ghost use Rattle.cli.specs.LoadRuns.{FailsAbove, IsOutcomeOf, load_lines};
@@ -14,15 +14,13 @@ use crate::loading::sites::LoadSites;
 use crate::status::Status;
 use cache_report::{JobSums, report_with};
 use command_line::{BUILD, LoadPlan, MeasuredNumbers, VERSION};
-use load_figures::{
+use load_report::{
     Connections, HostRun, LoadReport, LoadRun, OptionValue, SaidOption, Summary, fails_above,
-    json_text,
+    json_text, picture_of,
 };
-use load_picture::picture_of;
 use load_run::LoadedMany;
-use script_run::Sink;
-use script_text::FaultKind;
 use std::alloc::{AllocError, Global};
+use streams::{Sink, StreamFault};
 
 /// Makes a load's outcome: its report, its note and its status.
 ///
@@ -83,7 +81,7 @@ pub(crate) fn write_picture(
     let picture = picture_of(alloc, report)?;
     match file.put(picture.as_bytes()) {
         Ok(()) => Ok(()),
-        Err(FaultKind::Memory) => Err(OUT_OF_MEMORY.into()),
+        Err(StreamFault::Memory) => Err(OUT_OF_MEMORY.into()),
         Err(_) => Err(unwritten(alloc, name, file.last_error())),
     }
 }

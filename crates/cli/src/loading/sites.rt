@@ -14,10 +14,10 @@ use command_line::system_addresses;
 use conn_key::Target;
 use crawl_input::{Resolved, resolved_of};
 use exchange::Job;
-use log_trace::add_site;
 use socket::{AddressFault, Addresses};
 use std::alloc::{AllocError, Global};
 use std::net::SocketAddr;
+use trace_text::add_site;
 
 /// What a site's addresses are.
 #[derive(Drop)]

@@ -3,12 +3,12 @@
 ghost use Rattle.std.specs.Prelude.{◌≡◌, ◌++◌, List, [], length, reverse, string_bytes};
 ghost use Rattle.std.specs.Prelude.{IfOk, OnOk};
 ghost use Rattle.conn_log.specs.declared.entry.Entry.{Entry};
-ghost use Rattle.script_run.specs.Streams.{CanCount, SameFailures};
+ghost use Rattle.streams.specs.Streams.{CanCount, SameFailures};
 ghost use Rattle.cli.specs.LoadSites.{site_lines};
 ghost use Rattle.cli.specs.LoadTraces.{AddsPart, AreNewHosts, GoesOn, IfOpen, WritesTrace};
 ghost use Rattle.cli.specs.LoadTraces.{fault_of, limits_said};
-ghost use Rattle.log_trace.specs.Lines.{limits_lines, part_lines};
-ghost use Rattle.log_trace.specs.Uses.{AreUsesOf};
+ghost use Rattle.trace_text.specs.HostLines.{limits_lines, part_lines};
+ghost use Rattle.trace_text.specs.HostUses.{AreUsesOf};
 
 use crate::loading::failure::LoadFailure;
 use crate::loading::fault::{LoadFault, OUT_OF_MEMORY};
@@ -16,11 +16,11 @@ use crate::loading::files::{OutputFile, unwritten};
 use crate::loading::sites::LoadSites;
 use command_line::LoadOptions;
 use conn_log::Entry;
-use log_trace::{HostTrace, add_limits};
-use script_run::{FailureCounted, Sink};
-use script_text::{FaultKind, Limits};
+use script_text::Limits;
 use std::alloc::{AllocError, Global};
 use std::fs::File;
+use streams::{FailureCounted, Sink, StreamFault};
+use trace_text::{HostTrace, add_limits};
 
 /// The trace of a load, or the reason why it ends early.
 #[derive(Drop)]
@@ -210,11 +210,11 @@ fn put<W: Sink>(output: &mut W, text: &str) -> Result<(), LoadFault>
 }
 
 // Returns the load's fault if its trace could not be written.
-fn fault_of(kind: FaultKind) -> LoadFault
+fn fault_of(kind: StreamFault) -> LoadFault
     ensures { result ≡ fault_of kind }
 {
     match kind {
-        FaultKind::Memory => OUT_OF_MEMORY,
+        StreamFault::Memory => OUT_OF_MEMORY,
         _ => LoadFault::Write,
     }
 }

@@ -1,15 +1,14 @@
 //! Draws the picture of a script, and writes it.
 
-ghost use Rattle.script_run.specs.Streams.{CanCount};
+ghost use Rattle.streams.specs.Streams.{CanCount};
 
 use conn_key::{Site, Sites};
 use conn_log::{Entry, Log};
-use script_engine::Engine;
+use script_engine::{Engine, Viewer};
 use script_picture::{PicturedHost, picture_of};
-use script_run::{Sink, Viewer};
-use script_text::FaultKind;
 use std::alloc::{AllocError, Global};
 use std::fmt::Write;
+use streams::{Sink, StreamFault};
 
 /// The port of `http`, which a URL leaves out.
 const HTTP_PORT: u16 = 80;
@@ -37,13 +36,13 @@ impl Painter {
     ///
     /// `Memory`: there was none to draw it, or there is none to write it. `Write`: it could not be
     /// written.
-    pub(crate) fn write_to<W: Sink>(self, file: &mut W) -> Result<(), FaultKind>
+    pub(crate) fn write_to<W: Sink>(self, file: &mut W) -> Result<(), StreamFault>
         requires { CanCount (W.sink file.old) }
     {
         match self.picture {
             None => Ok(()),
             Some(Ok(picture)) => file.put(picture.as_bytes()),
-            Some(Err(_)) => Err(FaultKind::Memory),
+            Some(Err(_)) => Err(StreamFault::Memory),
         }
     }
 }

@@ -3,11 +3,11 @@
 use crate::networks::FakeNetwork;
 use cli::{System, load_on_system, run_program};
 use command_line::{CountedArgsAlloc, Words};
-use script_run::SystemFiles;
 use std::alloc::{AllocError, AllocGlobal, Global};
 use std::random::RandomSource;
 use std::sync::Wait;
 use std::thread::Threads;
+use streams::SystemFiles;
 
 /// The status with which the program ended, and what it wrote on output and on standard error.
 #[derive(Drop)]

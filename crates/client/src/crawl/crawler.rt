@@ -1,9 +1,9 @@
 //! Crawlers, which run the jobs of a crawl.
 
 use crate::crawl::fault::NetworkFault;
+use conn_key::Places;
 use exchange::Job;
 use run_loop::{Results, Until};
-use site_table::Places;
 use std::alloc::AllocError;
 use std::net::SocketAddr;
 

@@ -1,6 +1,6 @@
 //! Faults of crawls and networks.
 
-use script_text::FaultKind;
+use streams::StreamFault;
 use thiserror::Error;
 
 /// A fault of a network.
@@ -22,10 +22,10 @@ pub enum NetworkFault {
 pub enum CrawlFault {
     /// A read of the URLs failed, or there is no memory for them.
     #[error("{0}")]
-    Input(FaultKind),
+    Input(StreamFault),
     /// A line could not be written, or there is no memory for it.
     #[error("{0}")]
-    Output(FaultKind),
+    Output(StreamFault),
     #[error("{0}")]
     Network(NetworkFault),
     /// The line of this number is a bad URL; 0 is no line.

@@ -9,9 +9,8 @@ use crate::crawl::in_flight::InFlight;
 use crate::crawl::names::{Answer, KnownNames, Names};
 use crate::crawl::placed::Placed;
 use bundle::MOST_HOSTS;
-use conn_key::Target;
+use conn_key::{PlaceError, PlaceTable, Places, Target};
 use crawl_input::{Resolved, resolved_of};
-use site_table::{PlaceError, Places, SiteTable};
 use socket::{AddressFault, host_addresses};
 use std::alloc::{AllocError, Global};
 use std::net::SocketAddr;
@@ -23,7 +22,7 @@ const MOST_ANSWERS: usize = 1_024;
 #[derive(Drop)]
 pub(crate) struct Hosts {
     alloc: Global,
-    table: SiteTable,
+    table: PlaceTable,
     /// The addresses that are given for hosts.
     given: Vec<Resolved>,
     names: KnownNames,
@@ -68,7 +67,7 @@ impl Hosts {
     pub(crate) fn new(alloc: Global, given: Vec<Resolved>) -> Hosts {
         Hosts {
             alloc,
-            table: SiteTable::new(alloc, MOST_HOSTS),
+            table: PlaceTable::new(alloc, MOST_HOSTS),
             given,
             names: KnownNames::new(alloc),
             unknown: Vec::new(alloc),

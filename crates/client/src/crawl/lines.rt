@@ -2,7 +2,7 @@
 
 ghost use Rattle.std.specs.Prelude.{◌≡◌, ◌<◌, [], true, Some, length, take, IfOk, OnOk};
 ghost use Rattle.std.specs.Str.Lines.{strip_carriage_return};
-ghost use Rattle.script_run.specs.Streams.{CanCount};
+ghost use Rattle.streams.specs.Streams.{CanCount};
 ghost use Rattle.std.specs.Prelude.{string_bytes};
 ghost use Rattle.std.specs.Str.Lossy.{utf8_lossy};
 ghost use Rattle.crawl_input.specs.Urls.{IsBadLine};
@@ -11,10 +11,9 @@ ghost use Rattle.client.specs.FileLines.{IsNextLine, NeedsMore, NumbersLine, Rea
 ghost use Rattle.client.specs.FileLines.{is_skipped, lines_shown, nothing_read};
 ghost use Rattle.client.specs.FileLines.{urls_on, urls_returned};
 
-use script_run::Source;
-use script_text::place_of;
 use std::alloc::{AllocError, Global};
 use std::str;
+use streams::{Source, place_of};
 
 /// Maximum number of bytes of a line that is a URL.
 const MOST_BYTES: usize = 2_048;

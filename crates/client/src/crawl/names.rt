@@ -1,6 +1,6 @@
 //! Names of hosts, each of which is looked up once.
 
-use site_table::{Places, SiteTable};
+use conn_key::{PlaceTable, Places};
 use std::alloc::{AllocError, Global};
 use std::net::SocketAddr;
 
@@ -62,7 +62,7 @@ pub trait Names {
 #[derive(Drop)]
 pub(crate) struct KnownNames {
     alloc: Global,
-    names: SiteTable,
+    names: PlaceTable,
     // By the place of a name, its addresses, once they are known.
     found: Vec<Option<Vec<SocketAddr>>>,
 }
@@ -86,7 +86,7 @@ impl KnownNames {
     pub(crate) fn new(alloc: Global) -> KnownNames {
         KnownNames {
             alloc,
-            names: SiteTable::new(alloc, MOST_NAMES),
+            names: PlaceTable::new(alloc, MOST_NAMES),
             found: Vec::new(alloc),
         }
     }

@@ -3,7 +3,7 @@
 ghost use Rattle.std.specs.Prelude.{◌≡◌, ◌==◌, ◌<◌, Some, None, false, length, string_bytes};
 ghost use Rattle.std.specs.Prelude.{IfNone, IfOk, IfSome, OnErr, OnOk};
 ghost use Rattle.std.specs.List.{HoldsAt};
-ghost use Rattle.script_run.specs.Streams.{CanCount};
+ghost use Rattle.streams.specs.Streams.{CanCount};
 ghost use Rattle.client.specs.Lines.{fetched_as, line_of};
 ghost use Rattle.client.specs.Written.{HasNoTransfer, done_failed};
 
@@ -15,10 +15,9 @@ use crate::fetched::Fetched;
 use crawl_input::{CrawlFlags, Escaped};
 use exchange::Done;
 use run_loop::{Results, Span};
-use script_run::Sink;
-use script_text::FaultKind;
 use std::alloc::{AllocError, Global};
 use std::sync::atomic::{AtomicBool, Ordering};
+use streams::{Sink, StreamFault};
 
 /// Writes the line of each transfer of a crawl as it ends. After a line that cannot be written
 /// whole, it writes no more. It has references only, so that contracts can refer to their targets
@@ -128,11 +127,11 @@ impl<W: Sink> Output<'_, W> {
     {
         self.count(is_failure);
         let Ok(line) = line else {
-            self.fail(FaultKind::Memory);
+            self.fail(StreamFault::Memory);
             return;
         };
         // until the line is written whole
-        self.progress.fault = Some(FaultKind::Write);
+        self.progress.fault = Some(StreamFault::Write);
         match self.output.put(line.as_bytes()) {
             Ok(()) => self.progress.fault = None,
             Err(kind) => self.fail(kind),
@@ -140,7 +139,7 @@ impl<W: Sink> Output<'_, W> {
     }
 
     // Ends the crawl with a fault of a line.
-    fn fail(&mut self, kind: FaultKind)
+    fn fail(&mut self, kind: StreamFault)
         ensures fault { self.new.progress.now.fault ≡ Some kind }
         ensures same { KeepsProgress self.old.progress.now self.new.progress.now }
         ensures tally { self.new.progress.now.tally ≡ self.old.progress.now.tally }

@@ -2,7 +2,7 @@
 
 use crate::crawl::in_flight::{InFlight, Tally};
 use crawl_input::CrawlFlags;
-use script_text::FaultKind;
+use streams::StreamFault;
 
 /// The progress of a crawl: its transfers in flight, its tally, and its fault.
 #[derive(Drop)]
@@ -11,5 +11,5 @@ pub(crate) struct Progress {
     pub(crate) in_flight: Vec<InFlight>,
     pub(crate) tally: Tally,
     /// The fault of a line that could not be written.
-    pub(crate) fault: Option<FaultKind>,
+    pub(crate) fault: Option<StreamFault>,
 }

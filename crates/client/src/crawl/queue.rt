@@ -19,10 +19,9 @@ use conn_log::Want;
 use crawl_input::{CrawlOptions, CrawlUrl, UrlFault, UrlFile, url_target};
 use exchange::Job;
 use run_loop::Until;
-use script_run::Source;
-use script_text::FaultKind;
 use std::alloc::{AllocError, Global};
 use std::collections::VecDeque;
+use streams::{Source, StreamFault};
 
 /// Maximum number of URLs that are read ahead.
 const MOST_AHEAD: usize = 256;
@@ -61,7 +60,7 @@ impl Queue {
     ghost use Rattle.client.specs.declared.crawl.route.Route.TheVariants.{Bad};
     ghost use Rattle.std.specs.Prelude.{length, option_to_list, string_bytes};
     ghost use Rattle.std.specs.Prelude.{IfErr, IfNone, IfOk, IfSome, OnOk, OnSome};
-    ghost use Rattle.script_run.specs.Streams.{CanCount};
+    ghost use Rattle.streams.specs.Streams.{CanCount};
     ghost use Rattle.client.specs.Crawling.{LeavesUrls, crawl_given, fault_in, queue_given};
     ghost use Rattle.client.specs.FileLines.{HasNoLine, NeedsMore};
     ghost use Rattle.client.specs.Hosts.{AreInUse, IsInUse, KeepsInUse, is_in_use};
@@ -240,7 +239,7 @@ impl Queue {
         }
         let was_read = self.lines.read_on(self.alloc, input)?;
         if !was_read {
-            self.stop = Some(CrawlFault::Input(FaultKind::Read));
+            self.stop = Some(CrawlFault::Input(StreamFault::Read));
         }
         Ok(was_read)
     }

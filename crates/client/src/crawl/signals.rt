@@ -2,8 +2,8 @@
 
 use crate::crawl::crawler::Signals;
 use crate::crawl::names::Names;
-use script_run::Source;
 use std::sync::atomic::{AtomicBool, Ordering};
+use streams::Source;
 
 /// The signals of a crawl to its crawler.
 #[derive(Drop)]

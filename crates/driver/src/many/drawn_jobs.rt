@@ -5,16 +5,15 @@ ghost use Rattle.driver.specs.ManyJobs.{given_out, fixed_of, IsDrawing};
 
 use crate::many::job_source::JobSource;
 use exchange::Prepared;
-use job_counter::{Claim, ClaimSeat};
-use run_loop::{Draw, Jobs};
+use run_loop::{Draw, JobCounter, JobSeat, Jobs};
 
 /// The jobs of one worker: their numbers are drawn from the run's word. A number whose job is not
 /// due yet is held until it is.
 #[derive(Drop)]
 pub(crate) struct DrawnJobs<'a, S: JobSource> {
-    claim: &'a Claim,
+    claim: &'a JobCounter,
     source: &'a S,
-    seat: ClaimSeat,
+    seat: JobSeat,
     held: Option<u64>,
     /// Whether a number past the jobs was drawn.
     is_over: bool,
@@ -23,7 +22,7 @@ pub(crate) struct DrawnJobs<'a, S: JobSource> {
 
 impl<'a, S: JobSource> DrawnJobs<'a, S> {
     /// With that seat, which has drawn nothing.
-    pub(crate) fn new(claim: &'a Claim, source: &'a S, seat: ClaimSeat) -> Self
+    pub(crate) fn new(claim: &'a JobCounter, source: &'a S, seat: JobSeat) -> Self
         requires at { seat.claim ≡ claim.now }
         requires not_past { seat.past ≡ 0 }
         ensures source { result.source.now ≡ source.now }
@@ -40,7 +39,7 @@ impl<'a, S: JobSource> DrawnJobs<'a, S> {
     }
 
     /// Its seat, at the end.
-    pub(crate) fn into_seat(self) -> ClaimSeat
+    pub(crate) fn into_seat(self) -> JobSeat
         ensures { result ≡ self.entry.seat }
     {
         self.seat
@@ -69,7 +68,7 @@ impl<'a, S: JobSource> DrawnJobs<'a, S> {
 
 impl<'a, S: JobSource> Jobs for DrawnJobs<'a, S> {
     ghost use Rattle.std.specs.Prelude.{◌≡◌, ℕ, ◌<◌, None};
-    ghost use Rattle.job_counter.specs.Draws.{Jobs as Claimed};
+    ghost use Rattle.run_loop.specs.Draws.{Jobs as Claimed};
     ghost use Rattle.driver.specs.ManyJobs.{given_out, fixed_of};
 
     ghost job_at = { λ jobs number. S.job_at jobs.source.now number };

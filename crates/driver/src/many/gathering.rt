@@ -4,7 +4,7 @@ ghost use Rattle.exchange.specs.Dialling.{failed_turns};
 ghost use Rattle.std.specs.Prelude.{◌≡◌, ◌+◌, ◌<◌, ◌≤◌, ℕ, List, reverse, vec_len, []};
 ghost use Rattle.std.specs.Prelude.{vec_capacity};
 ghost use Rattle.budget.specs.Words.{whole};
-ghost use Rattle.job_counter.specs.Draws.{first_seat};
+ghost use Rattle.run_loop.specs.Draws.{first_seat};
 ghost use Rattle.exchange.specs.Worlds.{world_of};
 ghost use Rattle.run_loop.specs.Moments.{TakesTimed};
 ghost use Rattle.driver.specs.ManyWork.{HaveLooped, IsManyRun, HavePasses, handed_back};
@@ -13,14 +13,13 @@ use crate::many::job_source::JobSource;
 use crate::many::running::{Common, ManyReport};
 use crate::many::worker::{Finished, LoopWorker, WorkerResult};
 use exchange::{Dial, Wire};
-use job_counter::ClaimSeat;
-use run_loop::{Results, RunEnd, Timer};
+use run_loop::{JobSeat, Results, RunEnd, Timer};
 use shared_cache::Names;
 
 /// Takes over what all workers leave, whose seats are together with this one all there are.
 pub(crate) fn gather_work<W: Wire, N: Names, D: Dial<W>, F: Results, S: JobSource, T: Timer>(
     common: &Common<'_, S, T>,
-    seat: ClaimSeat,
+    seat: JobSeat,
     workers: Vec<LoopWorker<W, D, F>>,
     finished: Vec<Finished<D, F>>,
 ) -> ManyReport<D, F>

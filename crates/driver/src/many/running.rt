@@ -4,7 +4,7 @@ ghost use Rattle.exchange.specs.Dialling.{failed_turns};
 ghost use Rattle.std.specs.Prelude.{◌≡◌, ◌<◌, ◌≤◌, true, ℕ, List, reverse, vec_len, [], IfOk};
 ghost use Rattle.std.specs.Prelude.{vec_capacity, IfErr, IsErrAnd};
 ghost use Rattle.std.specs.List.{All};
-ghost use Rattle.job_counter.specs.Draws.{first_seat, new_seat};
+ghost use Rattle.run_loop.specs.Draws.{first_seat, new_seat};
 ghost use Rattle.exchange.specs.Worlds.{world_of};
 ghost use Rattle.shared_cache.specs.Passes.{IsPassOf, IsNewPass};
 ghost use Rattle.run_loop.specs.Moments.{TakesTimed};
@@ -27,11 +27,9 @@ use crate::running::MOST_WORKERS;
 use crate::storage::passes_for;
 use budget::Pass;
 use bundle::Did;
-use desk::Desk;
 use exchange::{Alarm, Dial, Wire};
-use job_counter::Claim;
-use run_loop::{Results, RunEnd, Timer};
-use shared_cache::{Names, SharedCache};
+use run_loop::{JobCounter, Results, RunEnd, Timer};
+use shared_cache::{Desk, Names, SharedCache};
 use std::alloc::{AllocGlobal, Global};
 use std::random::RandomSource;
 use std::sync::Wait;
@@ -61,7 +59,7 @@ pub struct NotBegun<D, F> {
 /// What all workers share, beside the cache.
 #[derive(Drop)]
 pub(crate) struct Common<'s, S: JobSource, T: Timer> {
-    pub(crate) claim: &'s Claim,
+    pub(crate) claim: &'s JobCounter,
     pub(crate) source: &'s S,
     pub(crate) timer: &'s T,
     pub(crate) bell: Bell,

@@ -6,7 +6,7 @@ ghost use Rattle.std.specs.Prelude.{vec_capacity};
 ghost use Rattle.std.specs.Prelude.{IfOk};
 ghost use Rattle.std.specs.List.{All};
 ghost use Rattle.budget.specs.Words.{whole};
-ghost use Rattle.job_counter.specs.Draws.{first_seat};
+ghost use Rattle.run_loop.specs.Draws.{first_seat};
 ghost use Rattle.shared_cache.specs.Passes.{IsPassOf, IsNewPass};
 ghost use Rattle.driver.specs.ManyWork.{IsHiredLoop, AllBegin, handed_in};
 
@@ -16,16 +16,15 @@ use budget::Pass;
 use bundle::{Did, MOST_HOSTS};
 use exchange::{Dial, Wire};
 use futures::task::Solo;
-use job_counter::{Claim, ClaimSeat};
-use run_loop::RunLoop;
+use run_loop::{JobCounter, JobSeat, RunLoop};
 use shared_cache::Names;
 use std::alloc::{AllocError, AllocGlobal, Global};
 use std::random::RandomSource;
 
 /// What a run keeps, made before it begins.
 pub(crate) struct ManyStorage<W: Wire, D: Dial<W>, F> {
-    pub(crate) claim: Claim,
-    pub(crate) seat: ClaimSeat,
+    pub(crate) claim: JobCounter,
+    pub(crate) seat: JobSeat,
     /// One for each worker, with its share of the places.
     pub(crate) loops: Vec<RunLoop<W>>,
     /// None yet, with room for all.
@@ -58,7 +57,7 @@ impl<W: Wire, D: Dial<W>, F> ManyStorage<W, D, F> {
         if jobs > MOST_JOBS {
             return Err(AllocError);
         }
-        let (claim, seat) = Claim::new(alloc, jobs)?;
+        let (claim, seat) = JobCounter::new(alloc, jobs)?;
         let tasks = tasks_for(rt, alloc, count)?;
         let workers = Vec::with_capacity(alloc, count)?;
         let Ok(finished) = Vec::with_capacity(alloc, count) else {
@@ -131,8 +130,8 @@ fn destroy_all<W: Wire>(loops: Vec<RunLoop<W>>)
 
 /// A worker of each tools, with a loop, a seat and a pass of its own.
 pub(crate) fn hire_all<W: Wire, N: Names, D: Dial<W>, F>(
-    claim: &Claim,
-    seat: &mut ClaimSeat,
+    claim: &JobCounter,
+    seat: &mut JobSeat,
     tools: Vec<Tools<D, F>>,
     loops: Vec<RunLoop<W>>,
     passes: Vec<Pass<Did>>,

@@ -7,8 +7,7 @@ ghost use Rattle.driver.specs.ManyWork.{hired_with, left_with};
 use budget::Pass;
 use bundle::Did;
 use exchange::{Dial, Wire};
-use job_counter::ClaimSeat;
-use run_loop::{RunEnd, RunLoop};
+use run_loop::{JobSeat, RunEnd, RunLoop};
 use std::marker::Model;
 use std::mem;
 
@@ -36,7 +35,7 @@ pub(crate) struct Ready<W: Wire, D: Dial<W>, F> {
     pub(crate) places: RunLoop<W>,
     pub(crate) dial: D,
     pub(crate) results: F,
-    pub(crate) seat: ClaimSeat,
+    pub(crate) seat: JobSeat,
     pub(crate) pass: Pass<Did>,
 }
 
@@ -44,7 +43,7 @@ pub(crate) struct Ready<W: Wire, D: Dial<W>, F> {
 pub(crate) struct WorkerResult<D, F> {
     pub(crate) dial: D,
     pub(crate) results: F,
-    pub(crate) seat: ClaimSeat,
+    pub(crate) seat: JobSeat,
     pub(crate) pass: Pass<Did>,
     pub(crate) end: RunEnd,
 }

@@ -4,7 +4,7 @@
 use crate::checks::check_eq;
 use crate::logs::entries::{Happened, Step, entry_of, get};
 use conn_log::{Cause, Entry, Want};
-use monitor::{Fault, HostMonitor, Violation};
+use log_judge::{Fault, HostMonitor, Violation};
 use std::alloc::Global;
 use std::process::Abort;
 

@@ -3,7 +3,7 @@ use crate::checks::check_eq;
 use crate::logs::entries::{Happened, Step, closed, entry_of, leased, limited, waited};
 use budget::Limits;
 use conn_log::Cause;
-use monitor::{Fault, Monitor, Violation};
+use log_judge::{Fault, Monitor, Violation};
 use std::alloc::Global;
 use std::process::Abort;
 

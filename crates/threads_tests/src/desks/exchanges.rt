@@ -9,10 +9,9 @@ use crate::desks::connections::{
 use crate::desks::driving::run;
 use crate::making::{ANSWER, cache_of, pass_of, plan_of};
 use bundle::Did;
-use desk::{Desk, desk_shows_what_went_back};
 use exchange::Done;
 use exchange_memory::MemoryWire;
-use shared_cache::{Names, Plan};
+use shared_cache::{Desk, Names, Plan, desk_shows_what_went_back};
 use std::alloc::AllocGlobal;
 use std::marker::Brand;
 use std::process::Abort;

@@ -1,7 +1,7 @@
 //! Connections in memory, whose peer is the same however often one is dialled. They take no memory.
 
 ghost use Rattle.std.specs.Prelude.{◌≡◌, ⊤};
-ghost use Rattle.conn_key.specs.Wants.{Rises};
+ghost use Rattle.streams.specs.RisingCounts.{Rises};
 ghost use Rattle.exchange.specs.Wires.{Reads};
 ghost use Rattle.exchange.specs.Dialling.{OnReadFault};
 

@@ -3,8 +3,9 @@
 
 use budget::Limits;
 use conn_key::{CountedMemory, Sites, SitesFault};
-use script_text::{Command, FaultKind, ScriptFault, SiteWord, first_line, read_line};
+use script_text::{Command, FaultKind, ScriptFault, SiteWord, read_line};
 use std::alloc::Global;
+use streams::first_line;
 
 /// Maximum number of lines of a script, which is that of its bytes.
 pub(super) const MOST_LINES: u32 = 1_048_576;

@@ -1,5 +1,5 @@
 use Rattle.std.proofs.Common.{length}
-use Rattle.script_text.specs.Words.{words}
+use Rattle.streams.specs.Words.{words}
 use Rattle.audit.proofs.audit.words_of.Given as goal
 
 abbrev pub decreases-loop-word : goal.decreases-loop-word

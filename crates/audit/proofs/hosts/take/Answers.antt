@@ -1,4 +1,4 @@
-use Rattle.monitor.specs.AllHosts.{host_at}
+use Rattle.log_judge.specs.AllHosts.{host_at}
 use Rattle.audit.specs.Events.{entry_at}
 use Rattle.audit.proofs.Outcomes.{unbroken}
 use Rattle.audit.proofs.hosts.take.Goals as goal

@@ -1,5 +1,5 @@
 use Rattle.std.specs.Prelude.{◌≡◌, [], None}
-use Rattle.script_run.specs.Streams.{CanCount, Stream}
+use Rattle.streams.specs.Streams.{CanCount, Stream}
 use Rattle.client.specs.Crawling.{CrawlGiven, IsAt}
 use Rattle.client.specs.Reading.{queue_shown}
 use Rattle.client.specs.Written.{output_shown}

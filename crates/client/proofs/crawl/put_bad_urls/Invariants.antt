@@ -1,7 +1,7 @@
 use Rattle.std.specs.Prelude.{◌≡◌, ℕ, List, Option, length}
 use Rattle.exchange.specs.declared.job.Job.{Job}
 use Rattle.run_loop.specs.Taking.{JobResult}
-use Rattle.script_run.specs.Streams.{Stream}
+use Rattle.streams.specs.Streams.{Stream}
 use Rattle.client.specs.Crawling.{CrawlGiven, IsAt}
 use Rattle.client.specs.Reading.{queue_shown}
 use Rattle.client.specs.Written.{output_shown}

@@ -1,6 +1,6 @@
 use Rattle.std.proofs.Common.{refl}
 use Rattle.clap.proofs.OnLiterals.{clap_on_literals}
-use Rattle.script_text.specs.Words.{number}
+use Rattle.streams.specs.Words.{number}
 use Rattle.command_line.proofs.worked.worked_command_lines.Goals as goal
 
 pub returns-clause-urls : goal.returns-clause-urls

@@ -2,7 +2,7 @@ use Rattle.std.proofs.Common.{rules, arith, ◌≡◌, ℕ, ◌<◌, ◌⊎◌, 
 use Rattle.std.specs.List.{sum_by}
 use Rattle.std.specs.Prelude.{IfNone}
 use Rattle.std.proofs.lemmas.List.{take_at}
-use Rattle.job_counter.specs.Draws.{AreFirst}
+use Rattle.run_loop.specs.Draws.{AreFirst}
 use Rattle.bundle.specs.Passes.{Accounts}
 use Rattle.exchange.specs.Dialling.{failed_turns}
 use Rattle.exchange.specs.declared.done.Done.{Done}

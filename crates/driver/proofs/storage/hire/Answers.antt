@@ -2,7 +2,7 @@ use Rattle.std.proofs.Common.{rules, ◌≡◌, ◌∷◌, ◌++◌, [], sym, su
 use Rattle.std.specs.Prelude.{IfSome}
 use Rattle.std.specs.List.{All}
 use Rattle.std.proofs.lemmas.List.Elements.{All-pop, All-push}
-use Rattle.job_counter.specs.Draws.{new_seat}
+use Rattle.run_loop.specs.Draws.{new_seat}
 use Rattle.shared_cache.specs.Passes.{IsPassOf, IsNewPass}
 use Rattle.exchange.specs.Dialling.{failed_turns}
 use Rattle.driver.specs.Hiring.{IsHired}

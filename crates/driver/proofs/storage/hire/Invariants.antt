@@ -1,7 +1,7 @@
 use Rattle.std.proofs.Common.{◌≡◌, ◌+◌, ◌≤◌, length, take, vec_len, vec_capacity}
 use Rattle.std.specs.List.{All, sum_by}
 use Rattle.budget.specs.Words.{whole}
-use Rattle.job_counter.specs.Draws.{first_seat}
+use Rattle.run_loop.specs.Draws.{first_seat}
 use Rattle.shared_cache.specs.Passes.{IsPassOf, IsNewPass}
 use Rattle.exchange.specs.Dialling.{failed_turns}
 use Rattle.driver.specs.Hiring.{IsHired}

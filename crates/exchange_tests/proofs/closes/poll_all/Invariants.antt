@@ -1,6 +1,6 @@
 use Rattle.std.specs.Prelude.{◌≡◌}
 use Rattle.cache.specs.PoolCalls.{home_of}
-use Rattle.exchange.specs.Slabs.{AreKept}
+use Rattle.transfer_slab.specs.Slabs.{AreKept}
 use Rattle.exchange.specs.Worlds.{world_of}
 use Rattle.exchange_memory.specs.Memory.{IsUntouched, HappenedTo}
 use Rattle.exchange_tests.proofs.closes.poll_all.Given as goal

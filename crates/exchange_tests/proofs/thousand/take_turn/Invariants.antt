@@ -1,7 +1,7 @@
 use Rattle.std.specs.Prelude.{◌≡◌, ⊤}
 use Rattle.cache.specs.PoolCalls.{home_of}
 use Rattle.exchange.specs.Worlds.{world_of}
-use Rattle.exchange.specs.Slabs.{AreKept}
+use Rattle.transfer_slab.specs.Slabs.{AreKept}
 use Rattle.exchange_tests.proofs.thousand.take_turn.Given as goal
 
 abbrev pub invariant-loop : goal.invariant-loop

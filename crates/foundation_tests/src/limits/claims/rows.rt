@@ -3,27 +3,27 @@
 
 ghost use Rattle.std.specs.Prelude.{◌≡◌, ◌+◌, ◌^◌, ◌<◌, ◌++◌, ◌∷◌, []};
 ghost use Rattle.budget.specs.Words.{whole};
-ghost use Rattle.job_counter.specs.Draws.{first_seat};
+ghost use Rattle.run_loop.specs.Draws.{first_seat};
 
 use crate::checks::check_eq;
-use job_counter::{Claim, ClaimSeat};
+use run_loop::{JobCounter, JobSeat};
 use std::alloc::Global;
 use std::process::Abort;
 
 // A claim of so many jobs, with its first seat. Where memory runs out the call comes again.
-fn new_claim(rt: &impl Abort, alloc: Global, jobs: u64) -> (Claim, ClaimSeat)
+fn new_claim(rt: &impl Abort, alloc: Global, jobs: u64) -> (JobCounter, JobSeat)
     requires { jobs < 2 ^ 63 }
     ensures jobs { result.0.jobs ≡ jobs }
     ensures seat { result.1 ≡ first_seat result.0 }
 {
-    match Claim::new(alloc, jobs) {
+    match JobCounter::new(alloc, jobs) {
         Ok(made) => made,
-        Err(_) => Claim::new(alloc, jobs).expect(rt, "a claim"),
+        Err(_) => JobCounter::new(alloc, jobs).expect(rt, "a claim"),
     }
 }
 
 // Draws, and expects that job.
-fn draw_job(rt: &impl Abort, claim: &Claim, seat: &mut ClaimSeat, job: u64)
+fn draw_job(rt: &impl Abort, claim: &JobCounter, seat: &mut JobSeat, job: u64)
     requires claim { seat.old.claim ≡ claim.now }
     requires not_past { seat.old.past ≡ 0 }
     ensures { seat.new ≡ record seat.old { drawn = seat.old.drawn ++ job ∷ [] } }
@@ -35,7 +35,7 @@ fn draw_job(rt: &impl Abort, claim: &Claim, seat: &mut ClaimSeat, job: u64)
 }
 
 // Draws, and expects that no job is left.
-fn draw_nothing(rt: &impl Abort, claim: &Claim, seat: &mut ClaimSeat)
+fn draw_nothing(rt: &impl Abort, claim: &JobCounter, seat: &mut JobSeat)
     requires claim { seat.old.claim ≡ claim.now }
     requires not_past { seat.old.past ≡ 0 }
     ensures { seat.new ≡ record seat.old { past = seat.old.past + 1 } }
@@ -46,7 +46,7 @@ fn draw_nothing(rt: &impl Abort, claim: &Claim, seat: &mut ClaimSeat)
 }
 
 // So many jobs have to have been drawn.
-fn check_drawn(rt: &impl Abort, claim: &Claim, seat: &mut ClaimSeat, jobs: u64)
+fn check_drawn(rt: &impl Abort, claim: &JobCounter, seat: &mut JobSeat, jobs: u64)
     requires claim { seat.old.claim ≡ claim.now }
     requires whole { seat.old.share ≡ whole }
     ensures { seat.new ≡ seat.old }

@@ -2,10 +2,10 @@
 
 ghost use Rattle.std.specs.Prelude.{◌≡◌, ◌+◌, ◌^◌, ◌<◌, []};
 ghost use Rattle.std.specs.Thread.{IsSync};
-ghost use Rattle.job_counter.specs.Draws.{AreFirst, new_seat};
+ghost use Rattle.run_loop.specs.Draws.{AreFirst, new_seat};
 
 use crate::checks::check_eq;
-use job_counter::{Claim, ClaimSeat};
+use run_loop::{JobCounter, JobSeat};
 use std::alloc::Global;
 use std::process::Abort;
 use std::sync::Wait;
@@ -15,14 +15,14 @@ const JOBS: u64 = 10_000;
 
 // What a thread drew, in that order, and the seat that it drew with.
 struct Hand {
-    seat: ClaimSeat,
+    seat: JobSeat,
     numbers: Vec<u64>,
     ghost drawn: { numbers.items ≡ seat.drawn },
     ghost none_left: { 0 < seat.past },
 }
 
 // Draws until none is left.
-fn draw_all<R: Wait + Abort>(rt: &R, alloc: Global, claim: &Claim, seat: ClaimSeat) -> Hand
+fn draw_all<R: Wait + Abort>(rt: &R, alloc: Global, claim: &JobCounter, seat: JobSeat) -> Hand
     requires { seat ≡ new_seat claim.now }
     ensures claim { result.seat.claim ≡ seat.claim }
     ensures share { result.seat.share ≡ seat.share }
@@ -41,7 +41,7 @@ fn draw_all<R: Wait + Abort>(rt: &R, alloc: Global, claim: &Claim, seat: ClaimSe
 }
 
 // Puts together what two threads drew.
-fn together<R: Abort>(rt: &R, claim: &Claim, one: Hand, other: Hand) -> Hand
+fn together<R: Abort>(rt: &R, claim: &JobCounter, one: Hand, other: Hand) -> Hand
     requires one { one.seat.claim ≡ claim.now }
     requires other { other.seat.claim ≡ claim.now }
     ensures claim { result.seat.claim ≡ claim.now }
@@ -66,9 +66,9 @@ fn together<R: Abort>(rt: &R, claim: &Claim, one: Hand, other: Hand) -> Hand
 fn draw_by_two<R: Threads + Wait + Abort + Sync>(
     rt: &R,
     alloc: Global,
-    claim: &Claim,
-    one: ClaimSeat,
-    two: ClaimSeat,
+    claim: &JobCounter,
+    one: JobSeat,
+    two: JobSeat,
 ) -> Hand
     requires { (one ≡ new_seat claim.now) × (two ≡ new_seat claim.now) }
     ensures claim { result.seat.claim ≡ one.claim }
@@ -93,7 +93,7 @@ fn draw_by_four<R: Threads + Wait + Abort + Sync>(rt: &R, alloc: Global, jobs: u
     requires { jobs < 2 ^ 63 }
     ensures { AreFirst jobs result.items }
 {
-    let (claim, mut seat) = Claim::new(alloc, jobs).expect(rt, "a claim");
+    let (claim, mut seat) = JobCounter::new(alloc, jobs).expect(rt, "a claim");
     let a = claim.split(&mut seat);
     let b = claim.split(&mut seat);
     let c = claim.split(&mut seat);

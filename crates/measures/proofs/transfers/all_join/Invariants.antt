@@ -1,5 +1,5 @@
 use Rattle.cache.specs.PoolCalls.{home_of}
-use Rattle.exchange.specs.Slabs.{AreKept}
+use Rattle.transfer_slab.specs.Slabs.{AreKept}
 use Rattle.measures.specs.Told.{all_told}
 use Rattle.measures.proofs.transfers.all_join.Given as goal
 

@@ -4,7 +4,7 @@ use Rattle.std.specs.Ordering.{nat_cmp}
 use Rattle.std.specs.Map.{lookup}
 use Rattle.std.specs.BTreeMap.{get, is_at}
 use Rattle.bundle.specs.Lease.{Spends, ticket_want}
-use Rattle.pool_rules.specs.Calls.{after_abandoning}
+use Rattle.cache.specs.Calls.{after_abandoning}
 use Rattle.cache.specs.Pools.{host_at, all_hosts, StaysHost, KeepsOtherHosts}
 use Rattle.script_engine.specs.Hosted.{LeaseFacts, lease_facts, whereabouts, kept_facts, leases_of, due_others}
 use Rattle.script_engine.proofs.Leases.{leases-left, kept-due, kept-inserted, none-stays, same-whereabouts}

@@ -1,7 +1,7 @@
 use Rattle.std.proofs.Common.{◌∙◌, ap}
 use Rattle.std.specs.Map.{keys_of}
 use Rattle.std.specs.BTreeMap.{keys}
-use Rattle.script_rules.specs.Meaning.{with_ticket}
+use Rattle.script_engine.specs.Meaning.{with_ticket}
 use Rattle.script_engine.proofs.Tickets.{keys-inserted}
 use Rattle.script_engine.proofs.site_leases.keep_ticket.Goals as goal
 

@@ -8,7 +8,7 @@ use Rattle.cache.specs.Pools.{logs_of, host_at}
 use Rattle.cache.proofs.OneHost.{log_is}
 use Rattle.script_text.specs.declared.fault.FaultKind.{FaultKind}
 use Rattle.script_text.specs.Printing.{entry_line}
-use Rattle.script_rules.specs.Telling.{lines_told, WereTold, AddsText}
+use Rattle.script_engine.specs.Telling.{lines_told, WereTold, AddsText}
 use Rattle.script_engine.proofs.telling.lines.Invariants.{IsTextSoFar, TellsSoFar}
 use Rattle.script_engine.proofs.telling.lines.Goals as goal
 

@@ -3,7 +3,7 @@ use Rattle.conn_log.specs.declared.entry.Entry.{Entry}
 use Rattle.cache.specs.Pools.{logs_of}
 use Rattle.script_text.specs.declared.fault.FaultKind.{FaultKind}
 use Rattle.script_text.specs.declared.fault.FaultKind.TheVariants.{Memory}
-use Rattle.script_rules.specs.Telling.{lines_told}
+use Rattle.script_engine.specs.Telling.{lines_told}
 use Rattle.script_engine.proofs.telling.lines.Given as goal
 
 -- the text and what is left to tell are the whole, unless memory ran out

@@ -1,5 +1,5 @@
 use Rattle.std.proofs.Common.{◌≡◌, length}
-use Rattle.script_text.specs.Words.{words}
+use Rattle.streams.specs.Words.{words}
 use Rattle.script_text.specs.Grammar.{no_options, options_of}
 use Rattle.script_text.proofs.options.read_options.Given as goal
 

@@ -1,5 +1,5 @@
 use Rattle.std.proofs.Common.{sym, ◌∙◌, arith}
-use Rattle.script_text.specs.Words.{words}
+use Rattle.streams.specs.Words.{words}
 use Rattle.script_text.proofs.GetOptions.{numbered-option, lone-option}
 use Rattle.script_text.proofs.options.with_option.Goals as goal
 

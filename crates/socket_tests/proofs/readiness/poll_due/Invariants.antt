@@ -1,5 +1,5 @@
 use Rattle.cache.specs.PoolCalls.{home_of}
-use Rattle.exchange.specs.Slabs.{AreKept}
+use Rattle.transfer_slab.specs.Slabs.{AreKept}
 use Rattle.exchange.specs.Worlds.{world_of}
 use Rattle.socket_tests.proofs.readiness.poll_due.Given as goal
 

@@ -1,5 +1,5 @@
 use Rattle.std.proofs.Common.{refl}
-use Rattle.script_text.specs.Words.{words, number}
+use Rattle.streams.specs.Words.{words, number}
 use Rattle.script_text.specs.Grammar.{command_of, ending_of, limits_form, site_form, with_number, with_word, get_form, claim_form, back_form, drop_form, leave_form, limit_form, prune_form, upkeep_form, look_form}
 use Rattle.trace_text.specs.Lines.{trace_reading, line_named, order_form, rest_form, start_of, start_form, closed_form, wait_form, connection_of, cause_of}
 use Rattle.trace_text.proofs.worked.worked_trace_lines.Goals as goal

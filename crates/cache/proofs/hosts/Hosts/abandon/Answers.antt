@@ -1,7 +1,7 @@
 use Rattle.std.proofs.Common.{sym, ap, ◌∙◌}
 use Rattle.host_rules.specs.Calls.{after_abandon}
 use Rattle.host_rules.specs.Laws.{IsSoundAndQuiet}
-use Rattle.pool_rules.specs.AllHosts.{marked}
+use Rattle.cache.specs.AllHosts.{marked}
 use Rattle.cache.proofs.HostParts.{part_changed}
 use Rattle.cache.proofs.OneHost.{all_marked, stepped, there_inside}
 use Rattle.cache.proofs.Calling.{kept_called, was_kept, told_spending, notes_oldest, marks_one}

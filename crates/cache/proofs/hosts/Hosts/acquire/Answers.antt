@@ -11,10 +11,10 @@ use Rattle.bundle.specs.Replies.{IsGot}
 use Rattle.bundle.specs.Starts.{AcquiresAt}
 use Rattle.bundle.specs.declared.answers.Acquired.TheVariants.{Lease, Wait}
 use Rattle.conn_log.specs.Fit.{oldest_stamp}
-use Rattle.pool_rules.specs.AllHosts.{terms, log_at, with_room}
-use Rattle.pool_rules.specs.Calls.{Acquired, acquired, started}
-use Rattle.oldest_stamp.specs.Oldest.{is_before, stamp_at}
-use Rattle.pool_rules.proofs.BudgetRequests.{once_as_told}
+use Rattle.cache.specs.AllHosts.{terms, log_at, with_room}
+use Rattle.cache.specs.Calls.{Acquired, acquired, started}
+use Rattle.cache.specs.Oldest.{is_before, stamp_at}
+use Rattle.cache.proofs.BudgetRequests.{once_as_told}
 use Rattle.cache.specs.Pools.{PoolShown, all_hosts, host_at, host_in, IsAcquired, StaysHost, StaysPool, KeepsOtherHosts as KeepsOthers}
 use Rattle.cache.specs.PoolCalls.{AcquiresLease, AcquiresTicket, AcquiresBy, EndsAcquire, IsReason}
 use Rattle.cache.proofs.HostParts.{part_changed}
@@ -27,7 +27,7 @@ use Rattle.cache.proofs.NoneQueued.{pool_stays}
 use Rattle.cache.proofs.OneHost.{others_keep, host_changed, read_is, log_is, there_inside}
 use Rattle.cache.proofs.Calling.{kept_called, was_kept, told_so, marks_nothing, NotesOne}
 use Rattle.cache.proofs.LastTries.{IsToldAt, once_all, once_reply, lease_reply, wait_reply, begun_lease, begun_wait, same_order, no_room_reply, booking_is, half_full, half_goes_on, again_reply, never_again}
-use Rattle.pool_rules.proofs.OldestStamps.{still_not_later}
+use Rattle.cache.proofs.OldestStamps.{still_not_later}
 use Rattle.cache.proofs.hosts.Hosts.acquire.Goals as goal
 
 pub acquire-got-requires-clause-enrolled : goal.acquire-got-requires-clause-enrolled

@@ -4,7 +4,7 @@ use Rattle.conn_log.specs.Fit.{oldest_stamp}
 use Rattle.host_rules.specs.Calls.{is_queued}
 use Rattle.host_rules.specs.Laws.{IsSoundAndQuiet}
 use Rattle.bundle.specs.Lease.{HostShown, KeepsAll, KeepsStreams}
-use Rattle.pool_rules.specs.AllHosts.{oldest_of_all}
+use Rattle.cache.specs.AllHosts.{oldest_of_all}
 use Rattle.cache.specs.Pools.{PoolShown, all_hosts, KeepsHost}
 use Rattle.cache.proofs.HostParts.{part_changed}
 use Rattle.cache.proofs.Calling.{kept_called, was_kept, tells_nothing, notes_set, marks_nothing}

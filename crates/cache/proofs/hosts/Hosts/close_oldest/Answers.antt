@@ -1,11 +1,11 @@
 use Rattle.std.proofs.Common.{sym, ap, subst, ◌∙◌}
 use Rattle.std.specs.Prelude.{is_some}
-use Rattle.pool_rules.specs.AllHosts.{oldest_of_all, without_oldest}
+use Rattle.cache.specs.AllHosts.{oldest_of_all, without_oldest}
 use Rattle.cache.specs.Pools.{PoolShown, all_hosts}
 use Rattle.cache.specs.PoolCalls.{IsCallAtAll}
 use Rattle.cache.proofs.Closing.{found_at}
 use Rattle.cache.proofs.Turning.{none_closed}
-use Rattle.pool_rules.proofs.OldestOfAll.{oldest_if_kept}
+use Rattle.cache.proofs.OldestOfAll.{oldest_if_kept}
 use Rattle.cache.proofs.hosts.Hosts.close_oldest.Goals as goal
 
 pub returns-in_default-clause-can_make_room : goal.returns-in_default-clause-can_make_room

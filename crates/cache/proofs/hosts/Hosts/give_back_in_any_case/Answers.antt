@@ -1,5 +1,5 @@
 use Rattle.std.proofs.Common.{subst}
-use Rattle.pool_rules.specs.AllHosts.{AllHosts}
+use Rattle.cache.specs.AllHosts.{AllHosts}
 use Rattle.cache.specs.Pools.{all_hosts}
 use Rattle.cache.specs.PoolCalls.{TakesBack}
 use Rattle.cache.proofs.TwoTries.{kept_at_once}

@@ -1,6 +1,6 @@
 use Rattle.std.proofs.Common.{subst}
 use Rattle.conn_log.specs.declared.entry.Cause.{Cause}
-use Rattle.pool_rules.specs.AllHosts.{without_oldest}
+use Rattle.cache.specs.AllHosts.{without_oldest}
 use Rattle.cache.specs.Pools.{all_hosts}
 use Rattle.cache.specs.PoolCalls.{IsCallAtAll}
 use Rattle.cache.proofs.TwoTries.{kept_later}

@@ -1,5 +1,5 @@
 use Rattle.std.proofs.Common.{◌≡◌, sym, subst, rules}
-use Rattle.pool_rules.specs.AllHosts.{IsLawful}
+use Rattle.cache.specs.AllHosts.{IsLawful}
 use Rattle.bundle.specs.Lease.{HostShown, UnclaimedAreStarts}
 use Rattle.cache.specs.Pools.{PoolShown, host_at, all_hosts}
 use Rattle.cache.proofs.LawfulHosts.{lawful}

@@ -3,7 +3,7 @@ use Rattle.std.specs.Prelude.{if◌then◌else◌}
 use Rattle.budget.specs.Plain.{alive_in}
 use Rattle.conn_log.specs.declared.entry.Cause.{Cause}
 use Rattle.conn_log.specs.declared.entry.Cause.TheVariants.{TotalRoom}
-use Rattle.pool_rules.specs.AllHosts.{AllHosts, has_room, without_oldest}
+use Rattle.cache.specs.AllHosts.{AllHosts, has_room, without_oldest}
 use Rattle.cache.specs.Pools.{PoolShown, all_hosts}
 use Rattle.cache.specs.PoolCalls.{IsCallAtAll}
 use Rattle.cache.proofs.HostSums.{total_is, no_room_at_limit}

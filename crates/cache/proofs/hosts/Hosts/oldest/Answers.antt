@@ -1,7 +1,7 @@
 use Rattle.std.proofs.Common.{◌≡◌, ◌≢◌, Some, sym, ap, ◌∙◌, arith, rules}
-use Rattle.pool_rules.specs.AllHosts.{oldest_of_all}
+use Rattle.cache.specs.AllHosts.{oldest_of_all}
 use Rattle.cache.specs.Pools.{PoolShown, all_hosts}
-use Rattle.oldest_stamp.proofs.StampOrder.{there_at}
+use Rattle.cache.proofs.StampOrder.{there_at}
 use Rattle.cache.proofs.TrueStamps.{none_kept, told_true, noted_there, own_stamp, found, found_none, fewer_left, kept_noting}
 use Rattle.cache.proofs.hosts.Hosts.oldest.Goals as goal
 

@@ -1,6 +1,6 @@
 use Rattle.std.proofs.Common.{◌≡◌}
 use Rattle.cache.specs.Pools.{AreKept}
-use Rattle.oldest_stamp.proofs.StampOrder.{stale}
+use Rattle.cache.proofs.StampOrder.{stale}
 use Rattle.cache.proofs.TrueStamps.{shown_as, true_stamps}
 use Rattle.cache.proofs.hosts.Hosts.oldest.Given as goal
 

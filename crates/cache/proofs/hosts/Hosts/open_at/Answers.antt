@@ -5,7 +5,7 @@ use Rattle.host_rules.specs.Calls.{is_queued, after_turn}
 use Rattle.host_rules.specs.Laws.{IsSoundAndQuiet}
 use Rattle.bundle.specs.Lease.{HostShown, KeepsAll}
 use Rattle.bundle.specs.Replies.{answer_of}
-use Rattle.pool_rules.specs.AllHosts.{has_room}
+use Rattle.cache.specs.AllHosts.{has_room}
 use Rattle.cache.specs.Pools.{PoolShown, all_hosts, KeepsHost}
 use Rattle.cache.proofs.HostParts.{part_changed}
 use Rattle.cache.proofs.Calling.{kept_called, was_kept, tells_nothing}

@@ -7,7 +7,7 @@ use Rattle.host_rules.specs.Calls.{after_limit, limit_refusal, kept_limit, start
 use Rattle.host_rules.specs.Effects.{open_len}
 use Rattle.host_rules.specs.Laws.{IsSoundAndQuiet}
 use Rattle.bundle.specs.Passes.{limit_did}
-use Rattle.pool_rules.specs.AllHosts.{marked}
+use Rattle.cache.specs.AllHosts.{marked}
 use Rattle.cache.specs.Pools.{logs_of}
 use Rattle.cache.proofs.HostParts.{part_changed}
 use Rattle.cache.proofs.OneHost.{all_marked, stepped, there_inside, read_is}

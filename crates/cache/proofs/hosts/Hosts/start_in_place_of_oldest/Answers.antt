@@ -7,7 +7,7 @@ use Rattle.bundle.specs.Lease.{KeepsStreams}
 use Rattle.bundle.specs.Replies.{IsGot}
 use Rattle.bundle.specs.Starts.{AcquiresAt}
 use Rattle.conn_log.specs.declared.entry.Cause.{Cause}
-use Rattle.pool_rules.specs.AllHosts.{terms, without_oldest}
+use Rattle.cache.specs.AllHosts.{terms, without_oldest}
 use Rattle.cache.specs.Pools.{all_hosts, host_at, logs_of, IsAcquired, GivesLease, GivesTicket, KeepsHost}
 use Rattle.cache.specs.PoolCalls.{IsLeasedAt, IsWaitAt}
 use Rattle.cache.proofs.HostParts.{part_changed}
@@ -20,8 +20,8 @@ use Rattle.cache.proofs.Calling.{kept_called, was_kept, told_so, marks_one, Note
 use Rattle.cache.proofs.Keeping.{keeps_others, keeps_others_on, stays_pool_on, stays_there_on, grows_on}
 use Rattle.cache.proofs.LastTries.{MakesRoom, lease_reply, wait_reply, no_room_reply, again_reply, never_again, IsToldAt, last_all, last_reply}
 use Rattle.cache.specs.Turns.{IsOneFewer}
-use Rattle.pool_rules.proofs.BudgetRequests.{last_begins_as_told}
-use Rattle.pool_rules.proofs.OldestStamps.{still_not_later}
+use Rattle.cache.proofs.BudgetRequests.{last_begins_as_told}
+use Rattle.cache.proofs.OldestStamps.{still_not_later}
 use Rattle.cache.proofs.hosts.Hosts.start_in_place_of_oldest.Goals as goal
 use Rattle.cache.proofs.hosts.Hosts.start_in_place_of_oldest.Goals.{in-Lease, in-Wait}
 

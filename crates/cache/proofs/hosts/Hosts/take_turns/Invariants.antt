@@ -1,4 +1,4 @@
-use Rattle.pool_rules.specs.AllHosts.{total_waiting}
+use Rattle.cache.specs.AllHosts.{total_waiting}
 use Rattle.cache.specs.Pools.{all_hosts}
 use Rattle.cache.proofs.Turning.{IsOnTheWay}
 use Rattle.cache.proofs.hosts.Hosts.take_turns.Given as goal

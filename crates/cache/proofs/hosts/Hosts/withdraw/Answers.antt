@@ -2,7 +2,7 @@ use Rattle.std.proofs.Common.{Some, sym, ap, ◌∙◌}
 use Rattle.bundle.specs.declared.did.Did.TheVariants.{Stranger}
 use Rattle.host_rules.specs.Calls.{after_withdraw}
 use Rattle.host_rules.specs.Laws.{IsSoundAndQuiet}
-use Rattle.pool_rules.specs.AllHosts.{marked}
+use Rattle.cache.specs.AllHosts.{marked}
 use Rattle.cache.proofs.HostParts.{part_changed}
 use Rattle.cache.proofs.AtHost.{withdrawn_at, strange_at}
 use Rattle.cache.proofs.OneHost.{all_marked, stepped, there_inside}

@@ -1,6 +1,6 @@
 use Rattle.std.proofs.Common.{subst}
 use Rattle.cache_trait.specs.CacheCalls.CacheCall.{abandons}
-use Rattle.pool_rules.specs.Calls.{abandoned}
+use Rattle.cache.specs.Calls.{abandoned}
 use Rattle.cache.specs.Pools.{all_hosts}
 use Rattle.cache.specs.PoolCalls.{DidToPool}
 use Rattle.cache.proofs.PoolCalls.{abandon_on}

@@ -1,7 +1,7 @@
 use Rattle.std.proofs.Common.{◌≡◌, ap, subst, ◌∙◌}
 use Rattle.cache_trait.specs.Homes.{IsLeaseFor, IsTicketFor}
 use Rattle.cache_trait.specs.CacheCalls.CacheCall.{leases, begins_wait}
-use Rattle.pool_rules.specs.Calls.{acquired}
+use Rattle.cache.specs.Calls.{acquired}
 use Rattle.cache.specs.Pools.{all_hosts}
 use Rattle.cache.specs.PoolCalls.{home_of, AcquiresBy, DidToPool}
 use Rattle.cache.proofs.PoolCalls.{told_lease, told_ticket}

@@ -1,6 +1,6 @@
 use Rattle.std.proofs.Common.{subst}
 use Rattle.cache_trait.specs.CacheCalls.CacheCall.{gives_back}
-use Rattle.pool_rules.specs.Calls.{given_back}
+use Rattle.cache.specs.Calls.{given_back}
 use Rattle.cache.specs.Pools.{all_hosts}
 use Rattle.cache.specs.PoolCalls.{DidToPool}
 use Rattle.cache.proofs.PoolCalls.{back_on}

@@ -1,6 +1,6 @@
 use Rattle.std.proofs.Common.{subst, ap, ◌∙◌}
 use Rattle.cache_trait.specs.CacheCalls.CacheCall.{withdraws}
-use Rattle.pool_rules.specs.Calls.{withdrawn}
+use Rattle.cache.specs.Calls.{withdrawn}
 use Rattle.cache.specs.Pools.{all_hosts}
 use Rattle.cache.specs.PoolCalls.{home_of, DidToPool}
 use Rattle.cache.proofs.PoolCalls.{withdraw_on}

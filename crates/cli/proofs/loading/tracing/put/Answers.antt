@@ -1,5 +1,5 @@
 use Rattle.std.proofs.Common.{List, ℕ, subst, sym}
-use Rattle.script_run.specs.Streams.{PutFails}
+use Rattle.streams.specs.Streams.{PutFails}
 use Rattle.cli.specs.LoadTraces.{TraceFails}
 use Rattle.cli.proofs.LoadTraces.{put-failed}
 use Rattle.cli.proofs.loading.tracing.put.Goals as goal

@@ -1,5 +1,5 @@
 use Rattle.std.proofs.Common.{◌∙◌, ◌++◌, List, ℕ, ap, subst}
-use Rattle.log_trace.specs.Lines.{limits_lines}
+use Rattle.trace_text.specs.HostLines.{limits_lines}
 use Rattle.cli.specs.LoadSites.{site_lines}
 use Rattle.cli.specs.LoadTraces.{WritesTrace, limits_said}
 use Rattle.cli.proofs.loading.tracing.write_head.Goals as goal

@@ -1,7 +1,7 @@
 -- One worker after another is gathered, from the last one on.
 use Rattle.std.proofs.Common.{rules, ◌≡◌, ◌<◌, ◌∷◌, ◌++◌, [], List, length, sym, subst, refl}
 use Rattle.std.proofs.lemmas.List.Elements.{All-push}
-use Rattle.job_counter.specs.Draws.{Drawn, together}
+use Rattle.run_loop.specs.Draws.{Drawn, together}
 use Rattle.exchange.specs.Dialling.{failed_turns}
 use Rattle.exchange.specs.Worlds.{world_of}
 use Rattle.shared_cache.specs.Passes.{IsPassOf}

@@ -2,7 +2,7 @@ use Rattle.std.proofs.Common.{◌≡◌, ◌+◌, ◌≤◌, [], length, vec_len
 use Rattle.std.specs.List.{All}
 use Rattle.exchange.specs.Dialling.{failed_turns}
 use Rattle.budget.specs.Words.{whole}
-use Rattle.job_counter.specs.Draws.{first_seat}
+use Rattle.run_loop.specs.Draws.{first_seat}
 use Rattle.shared_cache.specs.Passes.{IsPassOf, IsNewPass}
 use Rattle.driver.specs.ManyWork.{IsHiredLoop}
 use Rattle.driver.proofs.ManyWork.{IsHiring}

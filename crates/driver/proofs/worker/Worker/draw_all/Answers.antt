@@ -2,7 +2,7 @@ use Rattle.std.proofs.Common.{rules, arith, ◌≡◌, ◌+◌, ◌<◌, length,
 use Rattle.std.specs.List.{All}
 use Rattle.std.proofs.lemmas.List.{length-append}
 use Rattle.std.proofs.lemmas.List.Elements.{All-nil, All-push}
-use Rattle.job_counter.specs.Draws.{Drawn}
+use Rattle.run_loop.specs.Draws.{Drawn}
 use Rattle.exchange.specs.declared.done.Done.{Done}
 use Rattle.exchange.specs.Worlds.{world_of}
 use Rattle.run_loop.specs.Running.{numbers_of}

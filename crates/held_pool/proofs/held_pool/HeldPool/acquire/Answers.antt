@@ -2,7 +2,7 @@
 use Rattle.std.proofs.Common.{subst}
 use Rattle.cache_trait.specs.CacheCalls.{GivesBy}
 use Rattle.cache.specs.PoolCalls.{DidToPool}
-use Rattle.slot_table.specs.Slots.{Puts}
+use Rattle.held_pool.specs.Slots.{Puts}
 use Rattle.held_pool.specs.Calls.{HeldShown}
 use Rattle.held_pool.proofs.DueCalls.{acquired_due}
 use Rattle.held_pool.proofs.held_pool.HeldPool.acquire.Goals as goal

@@ -1,7 +1,7 @@
 -- What the slot holds is the same, or what its ticket was claimed for.
 use Rattle.std.proofs.Common.{refl}
 use Rattle.bundle.specs.declared.answers.Acquired.TheVariants.{Lease, Wait}
-use Rattle.slot_table.specs.Slots.{Takes}
+use Rattle.held_pool.specs.Slots.{Takes}
 use Rattle.held_pool.specs.Due.{holder_of}
 use Rattle.held_pool.proofs.DueCalls.{replaced_due, changes_nothing, slot_due, put_back_same}
 use Rattle.held_pool.proofs.ClaimedDue.{claimed_change}

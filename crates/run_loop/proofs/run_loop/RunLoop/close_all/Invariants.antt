@@ -1,7 +1,7 @@
 use Rattle.std.specs.Prelude.{◌≡◌, sum_by}
 use Rattle.exchange.specs.Dialling.{failed_turns}
 use Rattle.exchange.specs.Worlds.{world_of}
-use Rattle.exchange.specs.Slabs.{AreKept, one_if_some}
+use Rattle.transfer_slab.specs.Slabs.{AreKept, one_if_some}
 use Rattle.run_loop.specs.Going.{rules_of, rules_at, point, RunsOn, MayClose}
 use Rattle.run_loop.specs.Moments.{AreReadings, TakesTimed}
 use Rattle.run_loop.proofs.run_loop.RunLoop.close_all.Given as goal

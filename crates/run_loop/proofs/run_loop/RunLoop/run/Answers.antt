@@ -3,7 +3,7 @@ use Rattle.std.proofs.Common.{sym, subst, List, [], Option, None, IfSome, ℕ, l
 use Rattle.std.proofs.lemmas.List.Elements.{All-nil, All-replicate}
 use Rattle.exchange.specs.Transfers.{TransferShown}
 use Rattle.exchange.specs.Worlds.{world_of}
-use Rattle.exchange.specs.Slabs.{AreKept, IsKept}
+use Rattle.transfer_slab.specs.Slabs.{AreKept, IsKept}
 use Rattle.run_loop.specs.Going.{rules_of, point, RunsToEnd}
 use Rattle.run_loop.specs.Moments.{AreReadings, TakesTimed}
 use Rattle.run_loop.proofs.run_loop.RunLoop.run.Goals as goal

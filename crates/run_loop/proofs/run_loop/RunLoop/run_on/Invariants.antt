@@ -1,7 +1,7 @@
 use Rattle.std.specs.Prelude.{◌≡◌}
 use Rattle.exchange.specs.Dialling.{failed_turns}
 use Rattle.exchange.specs.Worlds.{world_of}
-use Rattle.exchange.specs.Slabs.{AreKept}
+use Rattle.transfer_slab.specs.Slabs.{AreKept}
 use Rattle.run_loop.specs.Going.{rules_of, point, RunsOn}
 use Rattle.run_loop.specs.Moments.{AreReadings, TakesTimed}
 use Rattle.run_loop.specs.Steps.{IfNever}

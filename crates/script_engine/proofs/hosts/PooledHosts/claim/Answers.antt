@@ -1,11 +1,11 @@
 use Rattle.std.proofs.Common.{◌≡◌, ℕ, Bool, true, false, cond, List, Option, Some, None, refl, sym, ap, subst, ◌∙◌, length, map, string_bytes, Global, Ok, Err}
 use Rattle.conn_log.specs.Connections.{is_among, held_number}
-use Rattle.pool_rules.specs.AllHosts.{AllHosts, log_at}
+use Rattle.cache.specs.AllHosts.{AllHosts, log_at}
 use Rattle.cache.specs.Pools.{all_hosts}
 use Rattle.script_text.specs.declared.command.Action.TheVariants as actions
-use Rattle.script_rules.specs.Meaning.{AtSite, AnswerAt, claim_at, claim_of, stranger}
+use Rattle.script_engine.specs.Meaning.{AtSite, AnswerAt, claim_at, claim_of, stranger}
 use Rattle.script_engine.specs.Hosted.{Hosted, GivesAt, kept_at}
-use Rattle.script_rules.specs.Telling.{WereTold}
+use Rattle.script_engine.specs.Telling.{WereTold}
 use Rattle.script_engine.proofs.GrowthOfAll.{were-told-host}
 use Rattle.script_engine.proofs.PooledSites.{seen-due, hosted-after, seen-uncut, seen-gives}
 use Rattle.script_engine.proofs.hosts.PooledHosts.claim.Goals as goal

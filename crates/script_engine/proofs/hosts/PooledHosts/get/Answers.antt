@@ -5,12 +5,12 @@ use Rattle.budget.specs.Limits.{Bounds}
 use Rattle.conn_log.specs.declared.entry.Entry.{Entry}
 use Rattle.conn_log.specs.declared.entry.Want.{Want}
 use Rattle.host_rules.specs.Calls.{refusal}
-use Rattle.pool_rules.specs.AllHosts.{terms, log_at}
+use Rattle.cache.specs.AllHosts.{terms, log_at}
 use Rattle.cache.specs.Pools.{host_at}
 use Rattle.cache.proofs.OneHost.{log_is}
 use Rattle.script_text.specs.Printing.{refused}
 use Rattle.script_text.specs.declared.command.Action.TheVariants as actions
-use Rattle.script_rules.specs.Meaning.{AtSite, replied, refusal_word, get_at}
+use Rattle.script_engine.specs.Meaning.{AtSite, replied, refusal_word, get_at}
 use Rattle.script_engine.specs.Hosted.{kept_at}
 use Rattle.script_engine.proofs.Answering.{get-refused}
 use Rattle.script_engine.proofs.PooledSites.{seen-due, told-before, hosted-after, seen-uncut, seen-gives, seen-grown, seen-replied}

@@ -2,15 +2,15 @@ use Rattle.std.proofs.Common.{◌≡◌, ◌⊎◌, ℕ, refl, sym, ◌∙◌, a
 use Rattle.budget.specs.declared.refusal.Refusal.{Refusal}
 use Rattle.budget.specs.declared.refusal.Refusal.TheVariants as refusals
 use Rattle.host_rules.specs.Calls.{limit_refusal}
-use Rattle.pool_rules.specs.AllHosts.{AllHosts, log_at}
+use Rattle.cache.specs.AllHosts.{AllHosts, log_at}
 use Rattle.cache.specs.Pools.{PoolShown, host_at, all_hosts}
 use Rattle.cache.specs.PoolCalls.{limit_refusal_at}
 use Rattle.cache.proofs.OneHost.{log_is}
 use Rattle.cache.proofs.Refusals.{limit_due, owed_in, reason_in}
 use Rattle.cache.proofs.PoolCalls.{all_same_as}
 use Rattle.script_text.specs.declared.command.Action.TheVariants as actions
-use Rattle.script_rules.specs.Meaning.{AtSite, at_site, grown, replied, limit_at, limit_word}
-use Rattle.script_rules.specs.Telling.{AllGrowAfter}
+use Rattle.script_engine.specs.Meaning.{AtSite, at_site, grown, replied, limit_at, limit_word}
+use Rattle.script_engine.specs.Telling.{AllGrowAfter}
 use Rattle.script_engine.proofs.Answering.{accepted, gives-answer, gives-grown, limit-refused, limit-changed}
 use Rattle.script_engine.proofs.GrowthOfAll.{limited-grow}
 use Rattle.script_engine.proofs.PooledSites.{shown, all-due, none-cut, told-before, text-of-growth, seen-host, seen-beside}

@@ -3,14 +3,14 @@ use Rattle.conn_log.specs.declared.entry.Entry.{Entry}
 use Rattle.conn_log.specs.Legal.{LimitAndFirst}
 use Rattle.host_rules.specs.Calls.{is_queued}
 use Rattle.host_rules.specs.Counts.{snapshot_of}
-use Rattle.pool_rules.specs.AllHosts.{terms, log_at}
+use Rattle.cache.specs.AllHosts.{terms, log_at}
 use Rattle.cache.specs.Pools.{host_at, all_hosts}
 use Rattle.cache.proofs.OneHost.{log_is}
 use Rattle.cache.proofs.Keeping.{stays_pool}
 use Rattle.script_text.specs.Printing.{look_line}
 use Rattle.script_text.specs.declared.command.Action.TheVariants as actions
 use Rattle.script_engine.specs.Hosted.{Hosted, GivesAt}
-use Rattle.script_rules.specs.Meaning.{at_site}
+use Rattle.script_engine.specs.Meaning.{at_site}
 use Rattle.script_engine.proofs.Answering.{gives-answer, look-told, look-stays}
 use Rattle.script_engine.proofs.PooledSites.{shown, seen-host, seen-beside}
 use Rattle.script_engine.proofs.hosts.PooledHosts.look.Goals as goal

@@ -1,6 +1,6 @@
 use Rattle.std.proofs.Common.{string_bytes, sym, subst}
 use Rattle.cache.specs.Pools.{all_hosts}
-use Rattle.script_rules.specs.Telling.{AllGrowAfter}
+use Rattle.script_engine.specs.Telling.{AllGrowAfter}
 use Rattle.script_engine.proofs.GrowthOfAll.{pruned-grow}
 use Rattle.script_engine.proofs.PooledSites.{all-due, none-cut, told-before, seen-pruned}
 use Rattle.script_engine.proofs.hosts.PooledHosts.prune.Goals as goal

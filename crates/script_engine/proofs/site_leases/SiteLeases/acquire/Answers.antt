@@ -3,14 +3,14 @@ use Rattle.std.specs.Ordering.{nat_cmp}
 use Rattle.std.specs.BTreeMap.{get, keys}
 use Rattle.conn_log.specs.declared.entry.Want.{Want}
 use Rattle.conn_log.specs.Connections.{is_among}
-use Rattle.pool_rules.specs.AllHosts.{AllHosts}
-use Rattle.pool_rules.specs.Calls.{reply_of, after_abandoning, after_withdrawing}
+use Rattle.cache.specs.AllHosts.{AllHosts}
+use Rattle.cache.specs.Calls.{reply_of, after_abandoning, after_withdrawing}
 use Rattle.cache.specs.Pools.{host_at, all_hosts}
 use Rattle.cache.proofs.Homes.{made_here, ticket_here}
 use Rattle.cache.proofs.PoolCalls.{lease_as, ticket_as}
-use Rattle.script_rules.specs.Meaning.{AtSite, with_ticket, grown}
+use Rattle.script_engine.specs.Meaning.{AtSite, with_ticket, grown}
 use Rattle.script_engine.specs.Hosted.{kept_at}
-use Rattle.script_rules.specs.Telling.{AllGrowAfter}
+use Rattle.script_engine.specs.Telling.{AllGrowAfter}
 use Rattle.script_engine.proofs.Answering.{get-started, get-waited}
 use Rattle.script_engine.proofs.Spending.{sound-at, ticketed}
 use Rattle.script_engine.proofs.GrowthOfAll.{grow-on, acquired-grow}

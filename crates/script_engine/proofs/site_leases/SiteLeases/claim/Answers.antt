@@ -3,13 +3,13 @@ use Rattle.std.specs.Ordering.{nat_cmp}
 use Rattle.std.specs.Map.{keys_of}
 use Rattle.std.specs.BTreeMap.{get, keys}
 use Rattle.conn_log.specs.Connections.{is_among, held_number}
-use Rattle.pool_rules.specs.AllHosts.{AllHosts, log_at}
-use Rattle.pool_rules.specs.Calls.{after_abandoning, after_withdrawing}
+use Rattle.cache.specs.AllHosts.{AllHosts, log_at}
+use Rattle.cache.specs.Calls.{after_abandoning, after_withdrawing}
 use Rattle.cache.specs.Pools.{PoolShown, host_at, all_hosts, KeepsOtherHosts}
 use Rattle.cache.proofs.PoolCalls.{grant_as, still_as}
 use Rattle.script_text.specs.declared.command.Action.TheVariants as actions
 use Rattle.script_text.specs.Printing.{claimed_line, still_line}
-use Rattle.script_rules.specs.Meaning.{AtSite, replied, with_ticket, without_ticket}
+use Rattle.script_engine.specs.Meaning.{AtSite, replied, with_ticket, without_ticket}
 use Rattle.script_engine.specs.Hosted.{Gives, kept_at, tickets_of, wanted}
 use Rattle.script_engine.proofs.Tickets.{at-key, among-keys, keys-removed, put-back}
 use Rattle.script_engine.proofs.Leases.{itself, kept-removed, ticket-no-lease}

@@ -1,6 +1,6 @@
 use Rattle.std.proofs.Common.{◌∙◌, sym, ap}
 use Rattle.persistence.specs.declared.facts.Facts.{Facts}
-use Rattle.pool_rules.specs.Calls.{after_giving_back}
+use Rattle.cache.specs.Calls.{after_giving_back}
 use Rattle.cache.specs.Pools.{all_hosts}
 use Rattle.script_engine.proofs.SpentAtSite.{others-at, back-unleased, lease-at, made-here, keeps-lease-spent, back-spent, back-grow}
 use Rattle.script_engine.proofs.site_leases.SiteLeases.give_back.Goals as goal

@@ -6,7 +6,7 @@ use Rattle.cache.specs.Pools.{host_at, all_hosts}
 use Rattle.cache.proofs.OneHost.{log_is}
 use Rattle.cache.proofs.Keeping.{stays_pool_on, still_there, keeps_others_on}
 use Rattle.script_engine.specs.Hosted.{kept_at, merged}
-use Rattle.script_rules.specs.Ending.{after_giving_up}
+use Rattle.script_engine.specs.Ending.{after_giving_up}
 use Rattle.script_engine.proofs.Spending.{sound-at}
 use Rattle.script_engine.proofs.Ending.{sorted-merged, each-left, next-gives-up}
 use Rattle.script_engine.proofs.site_leases.SiteLeases.spend_all.Goals as goal

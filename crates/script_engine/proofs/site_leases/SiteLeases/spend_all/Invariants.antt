@@ -2,7 +2,7 @@ use Rattle.std.proofs.Common.{◌≡◌, ◌<◌, ◌+◌, length}
 use Rattle.std.specs.BTreeMap.{keys, btree_map_len}
 use Rattle.cache.specs.Pools.{host_at, StaysPool, KeepsOtherHosts}
 use Rattle.script_engine.specs.Hosted.{KeepsDue, kept_at, merged}
-use Rattle.script_rules.specs.Ending.{after_all_at}
+use Rattle.script_engine.specs.Ending.{after_all_at}
 use Rattle.script_engine.proofs.site_leases.SiteLeases.spend_all.Given as goal
 
 -- once those that are left gave up what they have, all is as it is due

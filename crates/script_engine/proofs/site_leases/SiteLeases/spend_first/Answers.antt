@@ -5,13 +5,13 @@ use Rattle.std.specs.Map.{keys_of}
 use Rattle.std.specs.BTreeMap.{get, keys}
 use Rattle.conn_log.specs.Connections.{is_among, held_number}
 use Rattle.bundle.specs.Lease.{Spends, is_valid_ticket}
-use Rattle.pool_rules.specs.AllHosts.{log_at}
-use Rattle.pool_rules.specs.Calls.{after_abandoning, after_withdrawing}
+use Rattle.cache.specs.AllHosts.{log_at}
+use Rattle.cache.specs.Calls.{after_abandoning, after_withdrawing}
 use Rattle.cache.specs.Pools.{host_at, all_hosts, StaysHost, KeepsOtherHosts}
 use Rattle.cache.proofs.OneHost.{log_is}
 use Rattle.script_engine.specs.Hosted.{kept_at, lease_facts}
-use Rattle.script_rules.specs.Meaning.{without_ticket}
-use Rattle.script_rules.specs.Ending.{after_dropping}
+use Rattle.script_engine.specs.Meaning.{without_ticket}
+use Rattle.script_engine.specs.Ending.{after_dropping}
 use Rattle.script_engine.proofs.Leases.{itself, kept-valid, leased-held, leased-no-ticket, same-whereabouts}
 use Rattle.script_engine.proofs.Spending.{sound-at, kept-lease, kept-made, ticketed, kept-ticket, ticket-made, ticket-spent, lease-spent}
 use Rattle.script_engine.proofs.Ending.{waiter-first, holder-first, none-at-all, gave-up-ticket, gave-up-lease}

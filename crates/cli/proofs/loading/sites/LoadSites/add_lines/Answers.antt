@@ -1,6 +1,6 @@
 -- The lines of one site after another are added.
 use Rattle.std.proofs.Common.{◌≡◌, ◌<◌, ◌∙◌, ◌++◌, List, ℕ, ap, get_or, length, string_bytes, subst}
-use Rattle.log_trace.specs.Lines.{site_line}
+use Rattle.trace_text.specs.HostLines.{site_line}
 use Rattle.cli.specs.declared.loading.sites.LoadSite.{LoadSite}
 use Rattle.cli.proofs.SitePlaces.{line_of_site, site_lines_more}
 use Rattle.cli.proofs.loading.sites.LoadSites.add_lines.Goals as goal

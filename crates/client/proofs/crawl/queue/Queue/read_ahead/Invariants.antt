@@ -1,5 +1,5 @@
 use Rattle.std.specs.Prelude.{◌≡◌, None}
-use Rattle.script_run.specs.Streams.{CanCount}
+use Rattle.streams.specs.Streams.{CanCount}
 use Rattle.client.specs.Reading.{Reads, queue_shown}
 use Rattle.client.specs.Windows.{KeepsHosts}
 use Rattle.client.proofs.crawl.queue.Queue.read_ahead.Given as goal

@@ -3,8 +3,8 @@ use Rattle.std.proofs.Common.{rules, ◌≡◌, refl, sym, subst, ℕ, ◌<◌, 
 use Rattle.exchange.specs.Dialling.{failed_turns}
 use Rattle.exchange.specs.Worlds.{world_of}
 use Rattle.cache_trait.specs.CacheCalls.{CacheCall}
-use Rattle.desk.specs.Desks.{DeskShown}
-use Rattle.desk.specs.DeskCalls.{DidAtDesk}
+use Rattle.shared_cache.specs.Desks.{DeskShown}
+use Rattle.shared_cache.specs.DeskCalls.{DidAtDesk}
 use Rattle.run_loop.specs.Going.{may_stop_at}
 use Rattle.run_loop.specs.Running.{IsRunning}
 use Rattle.run_loop.specs.Taking.{ends_of}

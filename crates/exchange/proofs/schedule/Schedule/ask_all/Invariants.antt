@@ -1,7 +1,0 @@
-use Rattle.std.proofs.Common.{◌≡◌}
-use Rattle.exchange.proofs.schedule.Schedule.ask_all.Given as goal
-
-abbrev pub invariant-loop : goal.invariant-loop
-invariant-loop l = record {
-  same : l.self.lists ≡ l.fn.self.lists;
-}

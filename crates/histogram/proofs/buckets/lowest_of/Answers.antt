@@ -1,5 +1,0 @@
-use Rattle.histogram.proofs.BucketLemmas.{lowest_shifted}
-use Rattle.histogram.proofs.buckets.lowest_of.Goals as goal
-
-pub returns : goal.returns
-returns c = lowest_shifted c.args.bucket c.bits_untold_in-bits_untold.result c.requires c.bits_untold_in-bits_untold.ensures

@@ -1,5 +1,0 @@
-use Rattle.histogram.proofs.TallyLemmas.{value_at_is_percentile}
-use Rattle.histogram.proofs.laws.percentiles_are_near.Goals as goal
-
-pub returns : goal.returns
-returns c = value_at_is_percentile

@@ -1,8 +1,0 @@
-//! Buckets of some values, by computation.
-
-ghost use Rattle.histogram.specs.Worked.{WorkedBuckets};
-
-/// The buckets of some values, as HdrHistogram has them.
-pub fn worked_buckets()
-    ensures { WorkedBuckets }
-{}

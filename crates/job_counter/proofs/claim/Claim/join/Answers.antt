@@ -1,6 +1,0 @@
-use Rattle.std.proofs.Common.{rules}
-use Rattle.job_counter.proofs.DrawSteps.{joins}
-use Rattle.job_counter.proofs.claim.Claim.join.Goals as goal
-
-pub join_seat-requires : goal.join_seat-requires
-join_seat-requires c = (search rules, search rules, c.other.invariant.bare, search rules, joins _ _ _ _ _ c.seat.invariant.some_share)

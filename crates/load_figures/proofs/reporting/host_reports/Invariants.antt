@@ -1,6 +1,0 @@
-use Rattle.std.proofs.Common.{take}
-use Rattle.load_figures.specs.Reports.{AreReportsOf}
-use Rattle.load_figures.proofs.reporting.host_reports.Given as goal
-
-abbrev pub invariant-loop-counts : goal.invariant-loop-counts
-invariant-loop-counts l = AreReportsOf (take l.counts-index l.hosts) l.reports.items

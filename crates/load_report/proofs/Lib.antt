@@ -1,0 +1,4 @@
+-- what is reported of hosts
+pub mod HostReports
+-- what is reported of intervals
+pub mod Lines

@@ -1,0 +1,2 @@
+-- the numbers of a report
+pub mod Reports

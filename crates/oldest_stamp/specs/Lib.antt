@@ -1,3 +1,0 @@
-pub mod Oldest
-pub mod Trees
-pub mod Laws

@@ -1,5 +1,0 @@
-use Rattle.pool_rules.proofs.Waits.{waits_for_room}
-use Rattle.pool_rules.proofs.laws.nobody_waits_beside_room.Goals as goal
-
-pub returns : goal.returns
-returns c = record { waits = waits_for_room }

@@ -1,5 +1,0 @@
-pub mod AllHosts
-pub mod Calls
-pub mod Laws
-pub mod OldestLaws
-pub mod Worked

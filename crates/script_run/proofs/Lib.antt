@@ -1,3 +1,0 @@
-pub mod Streaming
-pub mod Running
-pub mod Traces

@@ -1,5 +1,0 @@
-pub mod Streams
-pub mod Watching
-pub mod Traces
-pub mod Running
-pub mod Files

@@ -1,3 +1,0 @@
-pub mod Hosts
-pub mod Giving
-pub mod Laws

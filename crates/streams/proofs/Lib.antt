@@ -1,0 +1,4 @@
+pub mod Streaming
+pub mod Splits
+pub mod LineSplits
+pub mod Numbers

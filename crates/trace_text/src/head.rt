@@ -1,0 +1,33 @@
+//! The head of a trace: its order, its limits and its sites.
+
+ghost use Rattle.std.specs.Prelude.{◌≡◌, ◌++◌, OnOk, string_bytes};
+ghost use Rattle.trace_text.specs.HostLines.{limits_lines, site_line};
+
+use script_text::Limits;
+use std::alloc::AllocError;
+use std::fmt::Write;
+
+/// Adds the first lines of a trace: its lines are in order within each host alone (`order host`),
+/// and these are its limits.
+///
+/// # Errors
+///
+/// There is no memory for them.
+pub fn add_limits(text: &mut String, limits: Limits) -> Result<(), AllocError>
+    ensures { OnOk result (string_bytes text.new ≡ string_bytes text.old ++ limits_lines limits) }
+{
+    let Limits { host, total, kept } = limits;
+    write!(text, "order host\nlimits {host} {total} {kept}\n")
+}
+
+/// Adds the line of the next site: the host and the port of its `http` URL.
+///
+/// # Errors
+///
+/// There is no memory for it.
+pub fn add_site(text: &mut String, host: &str, port: u16) -> Result<(), AllocError>
+    ensures { OnOk result (string_bytes text.new
+        ≡ string_bytes text.old ++ site_line host.now port) }
+{
+    write!(text, "site http://{host}:{port}/\n")
+}

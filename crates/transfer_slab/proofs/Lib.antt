@@ -1,0 +1,4 @@
+pub mod Slots
+pub mod GivenUp
+pub mod Rounds
+pub mod Scheduling
