@@ -34,14 +34,7 @@ pub(crate) const KEEP: Facts = Facts {
 
 /// What a transfer wants if nothing else is said.
 pub(crate) fn want_of(transfer: u64) -> Want {
-    Want {
-        transfer,
-        lane: 0,
-        max_age: 118,
-        max_life: 0,
-        fresh: false,
-        forbid_reuse: false,
-    }
+    Want::of(transfer)
 }
 
 pub(crate) fn opened(connection: u32, want: Want, moment: u64) -> Entry {

@@ -30,14 +30,7 @@ pub(crate) const KEEP: Facts = Facts {
 
 /// Any connection of lane 0 will do for that transfer.
 pub(crate) fn want_of(transfer: u64) -> Want {
-    Want {
-        transfer,
-        lane: 0,
-        max_age: 118,
-        max_life: 0,
-        fresh: false,
-        forbid_reuse: false,
-    }
+    Want::of(transfer)
 }
 
 // A new host that may have one connection, whose number is `first`; a budget that limits nothing

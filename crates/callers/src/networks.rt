@@ -31,14 +31,7 @@ fn a_client_without_addresses_cannot_connect(rt: HostRuntime) {
     let mut client = Client::new(&rt, alloc, pool, dial, clock).expect(&rt, "a client");
     let job = Job {
         site: 0,
-        want: Want {
-            transfer: 1,
-            max_age: 118,
-            max_life: 0,
-            lane: 0,
-            fresh: false,
-            forbid_reuse: false,
-        },
+        want: Want::of(1),
         method: Method::Get,
         target: Target {
             host: String::new(alloc),

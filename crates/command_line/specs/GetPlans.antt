@@ -6,6 +6,7 @@ use Rattle.clap.specs.Words.{Row, Text}
 use Rattle.clap.specs.Walk.{first_of}
 use Rattle.persistence.specs.declared.method.Method.{Method}
 use Rattle.persistence.specs.declared.method.Method.TheVariants.{Get, Head}
+use Rattle.conn_log.specs.Wants.{default_max_age}
 use Rattle.conn_key.specs.Target.{GivesTarget}
 use Rattle.conn_key.specs.declared.target.Target.{Target}
 use Rattle.crawl_input.specs.Given.{url_texts}
@@ -31,13 +32,13 @@ flags_said rows = record {
 }
 
 -- the options that the words give. The defaults are one transfer in flight, no limits, reuse of connections idle for at
--- most 118 seconds, at any age, and a time limit of 30 seconds
+-- most the default age of libcurl, at any lifetime, and a time limit of 30 seconds
 pub record AreOptionsOf (rows : List Row) (options : CrawlOptions) : Type 0 where
   pub method_is : options.method ≡ method_said (flag_said (codes "head") rows)
   pub parallel_is : options.parallel ≡ unwrap_or (number_said (codes "parallel") Number 1 256 rows) 1
   pub host_limit_is : options.host_limit ≡ unwrap_or (number_said (codes "host-limit") Number 0 65535 rows) 0
   pub total_is : options.total ≡ unwrap_or (number_said (codes "total") Number 0 65535 rows) 0
-  pub max_age_is : options.max_age ≡ unwrap_or (number_said (codes "max-age") Seconds 0 18446744073709551615 rows) 118
+  pub max_age_is : options.max_age ≡ unwrap_or (number_said (codes "max-age") Seconds 0 18446744073709551615 rows) default_max_age
   pub max_life_is : options.max_life ≡ unwrap_or (number_said (codes "max-life") Seconds 0 18446744073709551615 rows) 0
   pub timeout_is : options.timeout ≡ unwrap_or (number_said (codes "timeout") Seconds 1 3600 rows) 30
   pub flags_are : options.flags ≡ flags_said rows

@@ -6,6 +6,7 @@ use Rattle.exchange.specs.declared.job.Job.{Job}
 use Rattle.conn_key.specs.Site.{site_of}
 use Rattle.conn_key.specs.Sites.{index_or_next, with_site}
 use Rattle.conn_key.specs.Target.{GivesTarget}
+use Rattle.conn_log.specs.Wants.{want_of}
 use Rattle.conn_key.specs.declared.site.Site.{Site}
 use Rattle.conn_key.specs.declared.target.Target.{Target}
 use Rattle.crawl_input.specs.Urls.{IsBadUrl, IsPrintable}
@@ -17,12 +18,12 @@ use Rattle.command_line.specs.declared.load_measured.MeasuredFlags.{MeasuredFlag
 abbrev pub urls_said : List Row → List Text
 urls_said rows = texts_said (codes "url") rows ++ texts_said (codes "URL") rows
 
--- the job of a target, whose site has that index: it reuses a connection that was idle for at most 118 seconds,
--- whatever its age
+-- the job of a target, whose site has that index: it reuses a connection that was idle for at most the default age,
+-- whatever its lifetime
 abbrev pub url_job : MeasuredFlags → ℕ → Target → Job
 url_job flags site target = record {
   site = site;
-  want = record { transfer = 0; max_age = 118; max_life = 0; lane = 0; fresh = false; forbid_reuse = flags.forbid_reuse };
+  want = record (want_of 0) { forbid_reuse = flags.forbid_reuse };
   method = method_said flags.head;
   target = target;
 }

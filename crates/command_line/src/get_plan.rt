@@ -15,9 +15,9 @@ use crate::refusal::{Refusal, wrong};
 use crate::resolve::given_hosts;
 use crate::values::{check_numbers, count, flag, number, text, texts};
 use clap::ArgMatches;
+use conn_log::DEFAULT_MAX_AGE;
 use crawl_input::{CrawlFlags, CrawlOptions, CrawlUrl, Resolved};
 use persistence::Method;
-use script_text::DEFAULT_MAX_AGE;
 use std::alloc::Global;
 
 /// The message for words that name neither a URL nor a file.

@@ -17,7 +17,6 @@ use clap::ArgMatches;
 use conn_key::{Sites, Target};
 use conn_log::Want;
 use exchange::Job;
-use script_text::DEFAULT_MAX_AGE;
 use std::alloc::{AllocError, Global};
 
 /// Maximum number of URLs.
@@ -90,12 +89,8 @@ pub fn job_of(site: u32, target: Target, flags: MeasuredFlags) -> Job
     Job {
         site,
         want: Want {
-            transfer: 0,
-            max_age: DEFAULT_MAX_AGE,
-            max_life: 0,
-            lane: 0,
-            fresh: false,
             forbid_reuse: flags.forbid_reuse,
+            ..Want::of(0)
         },
         method: method_of(flags.head),
         target,

@@ -11,3 +11,4 @@ pub mod Counts
 pub mod Bases
 pub mod Behind
 pub mod Laws
+pub mod Wants

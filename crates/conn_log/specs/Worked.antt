@@ -11,6 +11,7 @@ use Rattle.conn_log.specs.declared.entry.Event.TheVariants.{Opened, Leased, Retu
 use Rattle.conn_log.specs.declared.entry.Entry.{Entry}
 use Rattle.conn_log.specs.Connections.{open_connections, idle_connections, Holding, holdings, held_number, holder, holds, is_held_by, since, born, lane}
 use Rattle.conn_log.specs.Waiting.{waiting}
+use Rattle.conn_log.specs.Wants.{want_of}
 use Rattle.conn_log.specs.Fit.{is_too_old, newest_fit, oldest, idle_in_order}
 use Rattle.conn_log.specs.Legal.{LimitAndFirst, limit_in_force, owed, IsLegal, IsQuiet}
 use Rattle.conn_log.specs.declared.base.OpenConnection.{OpenConnection}
@@ -46,9 +47,9 @@ limit n at moment = record { moment = moment; event = Limit n }
 abbrev pub log_after : ℕ → List Entry → List Entry
 log_after lines transcript = reverse (take lines transcript)
 
--- what transfers want in the scripts: lane 0 and an age of 118 seconds, if nothing else is said
+-- what transfers want in the scripts, if nothing else is said
 abbrev pub get : ℕ → Want
-get transfer = record { transfer = transfer; lane = 0; max_age = 118; max_life = 0; fresh = false; forbid_reuse = false }
+get transfer = want_of transfer
 
 -- with what connections come back
 abbrev pub keep : Facts

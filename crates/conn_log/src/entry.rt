@@ -1,4 +1,11 @@
+ghost use Rattle.std.specs.Prelude.{◌≡◌};
+ghost use Rattle.conn_log.specs.Wants.{want_of};
+
 use persistence::Facts;
+
+/// The most seconds that a connection may have been idle if a transfer does not say another number:
+/// the default of libcurl's CURLOPT_MAXAGE_CONN.
+pub const DEFAULT_MAX_AGE: u64 = 118;
 
 /// What a transfer wants of a connection.
 #[derive(Clone, Copy, Debug, PartialEq, Eq)]
@@ -15,6 +22,23 @@ pub struct Want {
     pub fresh: bool,
     /// The connection is closed after this use (CURLOPT_FORBID_REUSE).
     pub forbid_reuse: bool,
+}
+
+impl Want {
+    /// What a transfer wants if it says nothing else: lane 0, a connection that was idle for at most
+    /// [`DEFAULT_MAX_AGE`] seconds, however old, and that may be used again.
+    pub fn of(transfer: u64) -> Want
+        ensures { result ≡ want_of transfer }
+    {
+        Want {
+            transfer,
+            max_age: DEFAULT_MAX_AGE,
+            max_life: 0,
+            lane: 0,
+            fresh: false,
+            forbid_reuse: false,
+        }
+    }
 }
 
 /// Why a connection was closed.

@@ -15,7 +15,7 @@ pub mod worked;
 
 pub use base::{Base, OpenConnection};
 pub use counts::Counts;
-pub use entry::{Cause, Entry, Event, Want};
+pub use entry::{Cause, DEFAULT_MAX_AGE, Entry, Event, Want};
 pub use log::{Log, LogFault};
 pub use past::Past;
 pub use readers::{holder, idle_oldest, open_count, waiting_len};

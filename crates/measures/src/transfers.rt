@@ -48,14 +48,7 @@ fn job(alloc: Global, transfer: u64) -> Option<Job> {
     let target = read_target(&mut memory, "http://example.com/a?b=1").ok()?;
     Some(Job {
         site: 0,
-        want: Want {
-            transfer,
-            lane: 0,
-            max_age: 118,
-            max_life: 0,
-            fresh: false,
-            forbid_reuse: false,
-        },
+        want: Want::of(transfer),
         method: Method::Get,
         target,
     })

@@ -41,14 +41,7 @@ type Step = (u64, Happened);
 
 // Any connection of lane 0 will do for that transfer.
 fn want_of(transfer: u64) -> Want {
-    Want {
-        transfer,
-        lane: 0,
-        max_age: 118,
-        max_life: 0,
-        fresh: false,
-        forbid_reuse: false,
-    }
+    Want::of(transfer)
 }
 
 fn entry_of(step: &Step) -> Entry {

@@ -32,14 +32,7 @@ pub(crate) const KEEP: Facts = Facts {
 
 /// Any connection of lane 0 will do for that transfer.
 pub(crate) fn want_of(transfer: u64) -> Want {
-    Want {
-        transfer,
-        lane: 0,
-        max_age: 118,
-        max_life: 0,
-        fresh: false,
-        forbid_reuse: false,
-    }
+    Want::of(transfer)
 }
 
 /// A pool, with the leases and tickets of its transfers, of which each has one at most. It has to

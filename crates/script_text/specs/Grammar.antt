@@ -2,6 +2,7 @@
 use Rattle.std.specs.Prelude.{ℕ, ◌^◌, Bool, true, false, ◌||◌, ◌==◌, nat_lt, if◌then◌else◌, codes, List, [], ◌∷◌, length, Option, Some, None, is_some, unwrap_or, Result, Ok, Err}
 use Rattle.std.specs.Option.{option_map}
 use Rattle.std.specs.Str.{bytes_eq}
+use Rattle.conn_log.specs.Wants.{default_max_age}
 use Rattle.conn_log.specs.declared.entry.Want.{Want}
 use Rattle.streams.specs.Words.{words, number, number_first, text_first, is_none_left}
 use Rattle.script_text.specs.declared.options.Options.{Options}
@@ -92,13 +93,12 @@ options_of options (name ∷ word ∷ rest) =
     then (number (2 ^ 64) word >>= with_number name options >>= λ more. options_of more rest)
     else (with_word name options >>= λ more. options_of more (word ∷ rest))
 
--- what get wants: where the options say no other, an age of 118 seconds (the default of
--- CURLOPT_MAXAGE_CONN) and a lifetime of 0, which is no limit
+-- what get wants: if the options say no other, the default age, and a lifetime of 0, which is no limit
 abbrev pub want_of : ℕ → ℕ → Options → Want
 want_of transfer lane options = record {
   transfer = transfer;
   lane = lane;
-  max_age = unwrap_or options.age 118;
+  max_age = unwrap_or options.age default_max_age;
   max_life = unwrap_or options.life 0;
   fresh = options.fresh;
   forbid_reuse = options.forbid;

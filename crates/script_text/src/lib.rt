@@ -13,7 +13,6 @@ mod site;
 pub use command::{Action, Command, Ending, HostCommand, Limits};
 pub use fault::{FaultKind, ScriptFault};
 pub use grammar::{LINE_LIMIT, command_of, read_line};
-pub use options::DEFAULT_MAX_AGE;
 pub use printing::LookLine;
 pub use replies::{claimed, lines_since, reply, still_waiting, too_many_leased, upkeep};
 pub use site::SiteWord;

@@ -7,12 +7,8 @@ ghost use Rattle.script_text.specs.Grammar.{no_options, options_of, takes_number
 ghost use Rattle.script_text.specs.Grammar.{with_life, with_number, with_fresh, with_forbid};
 ghost use Rattle.script_text.specs.Grammar.{with_word, want_of};
 
-use conn_log::Want;
+use conn_log::{DEFAULT_MAX_AGE, Want};
 use streams::{first_word, is_word, u64_first};
-
-/// The default maximum idle age of a reused connection, in seconds: that of libcurl's
-/// CURLOPT_MAXAGE_CONN.
-pub const DEFAULT_MAX_AGE: u64 = 118;
 
 /// The default maximum lifetime of a reused connection, in seconds: no limit.
 const DEFAULT_LIFE: u64 = 0;

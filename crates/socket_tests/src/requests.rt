@@ -104,14 +104,7 @@ fn outcome_of(done: Done, reason: Option<Reason>) -> Outcome {
 pub(crate) fn prepared(rt: &HostRuntime, transfer: u64, port: u16) -> Option<Prepared>
     ensures { IfSome result IsUnused }
 {
-    let want = Want {
-        transfer,
-        lane: 0,
-        max_age: 118,
-        max_life: 0,
-        fresh: false,
-        forbid_reuse: false,
-    };
+    let want = Want::of(transfer);
     let job = Job {
         site: 0,
         want,

@@ -165,14 +165,7 @@ const FACTS: Facts = Facts {
 
 // What a transfer wants; no picture shows it.
 fn want_of(transfer: u64) -> Want {
-    Want {
-        transfer,
-        max_age: 118,
-        max_life: 0,
-        lane: 0,
-        fresh: false,
-        forbid_reuse: false,
-    }
+    Want::of(transfer)
 }
 
 fn event_of(happened: Happened) -> Event {

@@ -4,7 +4,6 @@ use conn_key::Target;
 use conn_log::Want;
 use exchange::{Done, Fault, Job};
 use persistence::Method;
-use script_text::DEFAULT_MAX_AGE;
 use std::alloc::{AllocError, Global};
 use std::io::Write;
 
@@ -12,14 +11,7 @@ use std::io::Write;
 pub(crate) fn job_of(site: u32, transfer: u64, target: Target) -> Job {
     Job {
         site,
-        want: Want {
-            transfer,
-            lane: 0,
-            max_age: DEFAULT_MAX_AGE,
-            max_life: 0,
-            fresh: false,
-            forbid_reuse: false,
-        },
+        want: Want::of(transfer),
         method: Method::Get,
         target,
     }

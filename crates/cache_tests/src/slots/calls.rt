@@ -9,14 +9,7 @@ use std::alloc::AllocGlobal;
 use std::process::Abort;
 
 fn want_of(transfer: u64) -> Want {
-    Want {
-        transfer,
-        max_age: 118,
-        max_life: 0,
-        lane: 0,
-        fresh: false,
-        forbid_reuse: false,
-    }
+    Want::of(transfer)
 }
 
 /// The facts of a response that lets its connection persist, or that was cut.

@@ -58,14 +58,7 @@ const UNTIMED: Row = Row {
 fn url_at(alloc: Global, site: u32, port: u16) -> Result<Job, AllocError> {
     Ok(Job {
         site,
-        want: Want {
-            transfer: 0,
-            lane: 0,
-            max_age: 118,
-            max_life: 0,
-            fresh: false,
-            forbid_reuse: false,
-        },
+        want: Want::of(0),
         method: Method::Get,
         target: Target {
             host: String::from_str(alloc, "127.0.0.1")?,

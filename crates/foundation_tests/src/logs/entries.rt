@@ -6,14 +6,7 @@ use std::process::Abort;
 
 /// What transfers want in the scripts, where nothing else is said.
 pub(crate) fn get(transfer: u64) -> Want {
-    Want {
-        transfer,
-        lane: 0,
-        max_age: 118,
-        max_life: 0,
-        fresh: false,
-        forbid_reuse: false,
-    }
+    Want::of(transfer)
 }
 
 /// The facts of a response that lets its connection persist.

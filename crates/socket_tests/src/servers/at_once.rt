@@ -152,14 +152,7 @@ fn plan(rt: &HostRuntime, port: u16) -> Result<(Vec<Job>, Addresses), Fail> {
         if addresses.is_empty() {
             addresses.add(&target)?;
         }
-        let want = Want {
-            transfer,
-            lane: 0,
-            max_age: 118,
-            max_life: 0,
-            fresh: false,
-            forbid_reuse: false,
-        };
+        let want = Want::of(transfer);
         jobs.push(Job {
             site: 0,
             want,
