@@ -16,20 +16,20 @@ use Rattle.host_state.specs.State.{HostState, KeepsOpen}
 use Rattle.bundle.specs.declared.grant.Grant.{Grant}
 use Rattle.bundle.specs.declared.answers.Got.{Got}
 use Rattle.bundle.specs.declared.answers.Got.TheVariants.{Lease, Wait, NoRoom, Again}
-use Rattle.host_rules.specs.Calls.{start_behind, acquired, refusal, is_queued, GrowsBy}
-use Rattle.host_rules.specs.Laws.{IsSoundAndQuiet}
+use Rattle.host_state.specs.Calls.{start_behind, acquired, refusal, is_queued, GrowsBy}
+use Rattle.host_state.specs.Laws.{IsSoundAndQuiet}
 use Rattle.bundle.specs.Grants.{grant_starts, grant_transfers, grant_streams, GrantsKept}
 use Rattle.bundle.specs.Lease.{HostShown}
 use Rattle.bundle.specs.Inside.{GivesAt}
 use Rattle.bundle.specs.Replies.{IsGot, Acquires, GivesBooking, UnlessBooking}
 use Rattle.bundle.specs.Starts.{LeavesHalfway, AcquiresAt}
-use Rattle.host_rules.proofs.Outcomes.{IsHalfway}
+use Rattle.host_state.proofs.Outcomes.{IsHalfway}
 use Rattle.bundle.proofs.Granting.{leased_same, ticketed_same, kept_all}
 use Rattle.bundle.proofs.Answering.{kept_begun, begun_lease, begun_ticket, begun_stream, behind_only, behind_same}
-use Rattle.host_rules.proofs.Bookings.{IsOut}
-use Rattle.host_rules.proofs.Growth.{grows_acquired}
-use Rattle.host_rules.proofs.Soundness.{kept_acquired, none_waits}
-use Rattle.host_rules.proofs.Marks.{mark_acquired}
+use Rattle.host_state.proofs.Bookings.{IsOut}
+use Rattle.host_state.proofs.Growth.{grows_acquired}
+use Rattle.host_state.proofs.Soundness.{kept_acquired, none_waits}
+use Rattle.host_state.proofs.Marks.{mark_acquired}
 use Rattle.bundle.proofs.OutcomesOfAcquires.{Outcome, outcome}
 
 -- what it leaves: a log that is sound and quiet, and what that tells by what it gives

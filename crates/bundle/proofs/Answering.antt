@@ -22,17 +22,17 @@ use Rattle.host_state.specs.declared.held.Held.{Held}
 use Rattle.bundle.specs.declared.answers.Got.{Got}
 use Rattle.bundle.specs.declared.answers.Got.TheVariants.{Lease, Wait, NoRoom, Again}
 use Rattle.host_state.specs.Steps.{add, next_number}
-use Rattle.host_rules.specs.Calls.{start_new, open_for, unfit_cause, grant_to}
+use Rattle.host_state.specs.Calls.{start_new, open_for, unfit_cause, grant_to}
 use Rattle.host_state.specs.Idle.{stream_of}
-use Rattle.host_rules.specs.Laws.{IsSoundAndQuiet}
+use Rattle.host_state.specs.Laws.{IsSoundAndQuiet}
 use Rattle.host_state.specs.Queue.{waiting_want}
 use Rattle.bundle.specs.Lease.{HostShown, Leasing, Ticketed, is_same_want, GetsLease, GetsTicket, Spends}
-use Rattle.host_rules.specs.Grants.{granted_want}
+use Rattle.host_state.specs.Grants.{granted_want}
 use Rattle.bundle.specs.Grants.{grant_of, without_grant, grant_starts, grant_transfers, with_stream, grant_streams, GrantsKept, with_new, with_granted, IsAlone}
 use Rattle.bundle.specs.Replies.{GivesLease, GivesTicket}
 use Rattle.host_state.specs.State.{HostState, ComesBack, facts_of_held}
-use Rattle.host_rules.proofs.Soundness.{held_want, only_idle}
-use Rattle.host_rules.proofs.Transfers.{told, apart_held, holder_awaits_nothing, told_left_others, awaited_none, awaited_waits}
+use Rattle.host_state.proofs.Soundness.{held_want, only_idle}
+use Rattle.host_state.proofs.Transfers.{told, apart_held, holder_awaits_nothing, told_left_others, awaited_none, awaited_waits}
 use Rattle.bundle.proofs.Granting.{leased, ticketed, leased_same, ticketed_same, kept_at, granted_none, kept_others, kept_without, among_without, not_without, is_some-grant_of, Freed, no_stream, stream_of-append, stream_of-push, stream_of-pushed, stream_of-without, stream_of-granted}
 
 -- a connection that was closed is not open

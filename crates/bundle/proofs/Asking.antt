@@ -17,9 +17,9 @@ use Rattle.host_state.specs.declared.held.Held.{Held}
 use Rattle.host_state.specs.State.{facts_of_held}
 use Rattle.host_state.specs.Steps.{is_full}
 use Rattle.host_state.proofs.TooOld.{none_closed}
-use Rattle.host_rules.specs.Calls.{Start, is_anyone}
-use Rattle.host_rules.specs.Effects.{one_if, tidied}
-use Rattle.host_rules.specs.Asks.{asks_to_open, forbids_for, recorded_forbids, may_stay, keep_asks}
+use Rattle.host_state.specs.Calls.{Start, is_anyone}
+use Rattle.host_state.specs.Effects.{one_if, tidied}
+use Rattle.host_state.specs.Asks.{asks_to_open, forbids_for, recorded_forbids, may_stay, keep_asks}
 use Rattle.bundle.specs.Seats.{Tables}
 use Rattle.bundle.specs.Lease.{HostShown, Leasing, Using, lease_at}
 use Rattle.bundle.proofs.Resting.{forbids_as}

@@ -4,7 +4,7 @@ use Rattle.bundle.specs.Seats.{Tables}
 use Rattle.budget.specs.declared.permits.Try.{Try}
 use Rattle.bundle.specs.declared.answers.Back.{Back}
 use Rattle.bundle.specs.declared.answers.Back.TheVariants.{Spent, NoKeep, Again, Strange}
-use Rattle.host_rules.specs.Calls.{Returning, spent, not_kept, keep_again}
+use Rattle.host_state.specs.Calls.{Returning, spent, not_kept, keep_again}
 use Rattle.bundle.specs.Lease.{HostShown, Leasing, IsMadeAt}
 use Rattle.bundle.specs.Replies.{IsBack, IfBack}
 

@@ -12,13 +12,13 @@ use Rattle.conn_log.specs.Legal.{LimitAndFirst}
 use Rattle.conn_log.specs.Sound.{IsOrderly, IsNext}
 use Rattle.conn_log.proofs.Soundness.{next_free}
 use Rattle.bundle.specs.declared.grant.Grant.{Grant}
-use Rattle.host_rules.specs.Calls.{Start}
+use Rattle.host_state.specs.Calls.{Start}
 use Rattle.host_state.specs.Idle.{stream_of}
 use Rattle.host_state.specs.Queue.{waiting_want}
-use Rattle.host_rules.specs.Grants.{granted_want}
+use Rattle.host_state.specs.Grants.{granted_want}
 use Rattle.bundle.specs.Lease.{start_for}
 use Rattle.bundle.specs.Grants.{grant_of, without_grant, grant_start, grant_starts, grant_transfers, with_stream, grant_streams, IsGrantKept, GrantsKept}
-use Rattle.host_rules.proofs.Transfers.{Told, told, IsFreed, IsStarted, told_ended, ended_number, holder_awaits_nothing, told_others, told_started, apart_held}
+use Rattle.host_state.proofs.Transfers.{Told, told, IsFreed, IsStarted, told_ended, ended_number, holder_awaits_nothing, told_others, told_started, apart_held}
 
 -- the connection that a transfer has a lease of, and what its ticket is for
 abbrev pub leased : List Entry → List ℕ → ℕ → Option ℕ

@@ -7,9 +7,9 @@ use Rattle.conn_log.specs.Waiting.{waiting, waits}
 use Rattle.bundle.specs.declared.grant.Grant.{Grant}
 use Rattle.host_state.specs.Queue.{waiting_want}
 use Rattle.bundle.specs.Grants.{grant_transfers, GrantsKept}
-use Rattle.host_rules.specs.Bookings.{AreBooked}
-use Rattle.host_rules.specs.Grants.{granted_want}
-use Rattle.host_rules.proofs.Transfers.{awaited_waits, none_awaited}
+use Rattle.host_state.specs.Bookings.{AreBooked}
+use Rattle.host_state.specs.Grants.{granted_want}
+use Rattle.host_state.proofs.Transfers.{awaited_waits, none_awaited}
 use Rattle.bundle.proofs.Granting.{leased, ticketed, granted_none, Freed, Grants}
 use Rattle.bundle.proofs.Answering.{unclaimed_not}
 

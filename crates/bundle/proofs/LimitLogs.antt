@@ -16,13 +16,13 @@ use Rattle.host_state.specs.Steps.{add, moment_at, picked, without_picked}
 use Rattle.host_state.specs.Idle.{stream_of}
 use Rattle.host_state.specs.State.{HostState, KeepsOpen}
 use Rattle.bundle.specs.declared.grant.Grant.{Grant}
-use Rattle.host_rules.specs.Calls.{open_for, open_for_head, open_for_first, after_limit, kept_limit as limit_kept, limit_refusal, leased_len, starts_due, is_queued, GrowsBy}
-use Rattle.host_rules.specs.Laws.{IsSoundAndQuiet}
-use Rattle.host_rules.specs.Bookings.{AreBooked}
+use Rattle.host_state.specs.Calls.{open_for, open_for_head, open_for_first, after_limit, kept_limit as limit_kept, limit_refusal, leased_len, starts_due, is_queued, GrowsBy}
+use Rattle.host_state.specs.Laws.{IsSoundAndQuiet}
+use Rattle.host_state.specs.Bookings.{AreBooked}
 use Rattle.bundle.specs.Grants.{grant_streams, GrantsKept, with_first, with_limit}
-use Rattle.host_rules.proofs.Growth.{grows_limit}
-use Rattle.host_rules.proofs.Soundness.{closes_above, picked_above, kept_new_limit}
-use Rattle.host_rules.proofs.Transfers.{told}
+use Rattle.host_state.proofs.Growth.{grows_limit}
+use Rattle.host_state.proofs.Soundness.{closes_above, picked_above, kept_new_limit}
+use Rattle.host_state.proofs.Transfers.{told}
 use Rattle.bundle.proofs.Granting.{Grants, grants_nothing, grants_then}
 use Rattle.bundle.proofs.TurnLogs.{told_closed, told_first, waits_told, booked_same, grants_first, with_first_streams}
 

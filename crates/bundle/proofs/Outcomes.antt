@@ -7,12 +7,12 @@ use Rattle.conn_log.specs.Connections.{is_among}
 use Rattle.bundle.specs.declared.answers.Got.{Got}
 use Rattle.bundle.specs.declared.answers.Got.TheVariants.{Lease, Wait, NoRoom, Again}
 use Rattle.bundle.specs.Grants.{HasSpare}
-use Rattle.host_rules.specs.Bookings.{AreBooked, without_booked}
+use Rattle.host_state.specs.Bookings.{AreBooked, without_booked}
 use Rattle.bundle.specs.Replies.{GivesBooking, UnlessBooking}
-use Rattle.host_rules.proofs.Transfers.{told}
-use Rattle.host_rules.proofs.Bookings.{IsOut, out_still, fewer_booked, more_booked, booked_left, booked_others, booked_still, booked_last}
+use Rattle.host_state.proofs.Transfers.{told}
+use Rattle.host_state.proofs.Bookings.{IsOut, out_still, fewer_booked, more_booked, booked_left, booked_others, booked_still, booked_last}
 use Rattle.bundle.proofs.OutcomesOfAcquires.{Outcome}
-use Rattle.host_rules.proofs.Outcomes.{IsHalfway}
+use Rattle.host_state.proofs.Outcomes.{IsHalfway}
 
 module _ (want : Want) (log after : List Entry) where
   others_left : (booked left : List ℕ) → AreBooked log booked → left ≡ without_booked want.transfer booked → ((u : ℕ) → (want.transfer == u) ≡ false → told after u ≡ told log u) → AreBooked after left

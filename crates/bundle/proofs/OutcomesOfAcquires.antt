@@ -10,9 +10,9 @@ use Rattle.conn_log.specs.Legal.{LimitAndFirst}
 use Rattle.conn_log.specs.Sound.{IsSound}
 use Rattle.bundle.specs.declared.answers.Got.{Got}
 use Rattle.bundle.specs.declared.answers.Got.TheVariants.{Lease, Wait, NoRoom, Again}
-use Rattle.host_rules.specs.Calls.{Start, Reply, starts, waits_on, no_room, again, acquired}
+use Rattle.host_state.specs.Calls.{Start, Reply, starts, waits_on, no_room, again, acquired}
 use Rattle.bundle.specs.Replies.{IsGot}
-use Rattle.host_rules.proofs.Outcomes.{Starts, Waits, IsHalfway, ComesTo, comes_to}
+use Rattle.host_state.proofs.Outcomes.{Starts, Waits, IsHalfway, ComesTo, comes_to}
 
 -- the same, by what it gives
 abbrev pub Outcome : {S : Type 0} → Want → List Entry → List Entry → Got S → Type 0

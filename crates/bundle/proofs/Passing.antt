@@ -15,10 +15,10 @@ use Rattle.conn_log.proofs.Steps.{idle_open_unheld, new_not_held, unheld}
 use Rattle.conn_log.proofs.Soundness.{next_is_new, idle_may_close, sound_close}
 use Rattle.bundle.specs.declared.grant.Grant.{Grant}
 use Rattle.host_state.specs.Steps.{add, next_number}
-use Rattle.host_rules.specs.Calls.{start_new, open_for, open_for_head, unfit_cause, grant_to}
+use Rattle.host_state.specs.Calls.{start_new, open_for, open_for_head, unfit_cause, grant_to}
 use Rattle.bundle.specs.Grants.{with_new, with_granted, GrantsKept}
-use Rattle.host_rules.proofs.Soundness.{head_is_next, unfit_is_of_idle}
-use Rattle.host_rules.proofs.Transfers.{told_unheld, freed_closed, started_open, started_lease}
+use Rattle.host_state.proofs.Soundness.{head_is_next, unfit_is_of_idle}
+use Rattle.host_state.proofs.Transfers.{told_unheld, freed_closed, started_open, started_lease}
 use Rattle.bundle.proofs.Granting.{Grants, grants_nothing, grants_then, grants_head}
 
 -- the next number has no holder

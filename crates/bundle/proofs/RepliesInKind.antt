@@ -5,8 +5,8 @@ use Rattle.conn_log.specs.declared.entry.Want.{Want}
 use Rattle.host_state.specs.Steps.{moment_at}
 use Rattle.bundle.specs.declared.answers.Got.{Got}
 use Rattle.bundle.specs.declared.answers.Got.TheVariants.{Lease, Wait, NoRoom, Again}
-use Rattle.host_rules.specs.Calls.{Reply, starts, waits_on, no_room, again, acquired}
-use Rattle.host_rules.proofs.RepliesInKind.{IsReplyFor, reply_for}
+use Rattle.host_state.specs.Calls.{Reply, starts, waits_on, no_room, again, acquired}
+use Rattle.host_state.proofs.RepliesInKind.{IsReplyFor, reply_for}
 use Rattle.bundle.specs.Seats.{Tables}
 use Rattle.bundle.specs.Lease.{HostShown, Ticketed}
 use Rattle.bundle.specs.Replies.{IsGot, IsFor, Acquires}

@@ -26,14 +26,14 @@ use Rattle.host_state.specs.Steps.{add, moment_at}
 use Rattle.bundle.specs.declared.grant.Grant.{Grant}
 use Rattle.bundle.specs.declared.answers.Back.{Back}
 use Rattle.bundle.specs.declared.answers.Back.TheVariants.{Spent, NoKeep, Again}
-use Rattle.host_rules.specs.Calls.{Start, spent, open_for_head, grant_to, settle, returned, after_give_back, is_anyone, becomes_idle, keep_as_told, is_freed}
+use Rattle.host_state.specs.Calls.{Start, spent, open_for_head, grant_to, settle, returned, after_give_back, is_anyone, becomes_idle, keep_as_told, is_freed}
 use Rattle.bundle.specs.Lease.{HostShown, Leasing, Using, lease_at}
-use Rattle.host_rules.specs.Counts.{held_by}
+use Rattle.host_state.specs.Counts.{held_by}
 use Rattle.bundle.specs.Grants.{grant_starts, grant_streams}
 use Rattle.bundle.specs.Replies.{IsBack, GivesBack}
-use Rattle.host_rules.proofs.Soundness.{held_want}
+use Rattle.host_state.proofs.Soundness.{held_want}
 use Rattle.bundle.proofs.Answering.{known}
-use Rattle.host_rules.proofs.EndsOfUses.{got_is_spent}
+use Rattle.host_state.proofs.EndsOfUses.{got_is_spent}
 
 module _ {S : Type 0} (old new : HostShown S) (lease : Leasing S) (facts : Facts) (now : ℕ) where
   pub back_spent : (close_if_full freed : Bool) → new.log ≡ after_give_back old.settings old.log lease.start.number facts now → freed ≡ is_freed old.log new.log → GivesBack close_if_full Got old new lease facts now (Spent freed)

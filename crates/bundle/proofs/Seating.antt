@@ -11,10 +11,10 @@ use Rattle.conn_log.specs.Sound.{has_number}
 use Rattle.conn_log.specs.Starts.{start_count}
 use Rattle.conn_log.proofs.StartCounts.{starts_within}
 use Rattle.bundle.specs.declared.grant.Grant.{Grant}
-use Rattle.host_rules.specs.Calls.{Start, leased_len}
+use Rattle.host_state.specs.Calls.{Start, leased_len}
 use Rattle.bundle.specs.Grants.{grant_of, grant_starts, grant_transfers, without_grant, GrantsKept}
 use Rattle.bundle.specs.Seats.{SeatsShown, IsSeated, pairs_of, pair_granted, pair_leased, CountsNone, AreUnclaimed, KeepsGranted, ended_starts, gone}
-use Rattle.host_rules.specs.Effects.{one_if}
+use Rattle.host_state.specs.Effects.{one_if}
 
 -- a new host's tables
 pub seated_new : (held : SeatsShown) → CountsNone held → IsSeated [] held

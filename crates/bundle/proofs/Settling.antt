@@ -20,20 +20,20 @@ use Rattle.conn_log.proofs.Soundness.{sound_return, sound_end, sound_drop}
 use Rattle.bundle.specs.declared.grant.Grant.{Grant}
 use Rattle.host_state.specs.declared.held.Held.{Held}
 use Rattle.host_state.specs.Steps.{add, moment_at, is_full}
-use Rattle.host_rules.specs.Calls.{open_for_head, grant_to, settle, close_granted, after_withdraw, returned, becomes_idle, is_queued, GrowsBy}
+use Rattle.host_state.specs.Calls.{open_for_head, grant_to, settle, close_granted, after_withdraw, returned, becomes_idle, is_queued, GrowsBy}
 use Rattle.bundle.specs.Grants.{without_grant, grant_streams, GrantsKept, with_new, with_granted, IsAlone}
 use Rattle.host_state.specs.Idle.{stream_of}
-use Rattle.host_rules.specs.Orders.{IsMarked}
-use Rattle.host_rules.specs.Laws.{IsSoundAndQuiet}
+use Rattle.host_state.specs.Orders.{IsMarked}
+use Rattle.host_state.specs.Laws.{IsSoundAndQuiet}
 use Rattle.host_state.specs.State.{facts_of_held}
-use Rattle.host_rules.proofs.Soundness.{later, held_want, only_idle, stays_persistent, kept_close, kept_give_back, kept_unkept}
-use Rattle.host_rules.proofs.Growth.{grows_same, grows_by_one, grows_close, grows_give_back}
-use Rattle.host_rules.proofs.Marks.{mark_close, mark_give_back, mark_unkept}
-use Rattle.host_rules.proofs.Transfers.{freed_closed, freed_returned, freed_ended}
+use Rattle.host_state.proofs.Soundness.{later, held_want, only_idle, stays_persistent, kept_close, kept_give_back, kept_unkept}
+use Rattle.host_state.proofs.Growth.{grows_same, grows_by_one, grows_close, grows_give_back}
+use Rattle.host_state.proofs.Marks.{mark_close, mark_give_back, mark_unkept}
+use Rattle.host_state.proofs.Transfers.{freed_closed, freed_returned, freed_ended}
 use Rattle.bundle.proofs.Granting.{Freed, Grants, frees, freed_then, stream_of-without}
 use Rattle.bundle.proofs.Passing.{grants_new, grants_passed}
 use Rattle.bundle.proofs.Answering.{known, came_back_alone, both_same, with_new_streams, with_granted_streams, passed_stream, freed_stream, closed_not_open, left_freed}
-use Rattle.host_rules.proofs.EndsOfUses.{room_gone, owed_ends, owed_stays, holder_waits_not}
+use Rattle.host_state.proofs.EndsOfUses.{room_gone, owed_ends, owed_stays, holder_waits_not}
 
 module _ {S : Type 0} where
   -- the host after it: sound and quiet, with each grant kept, and the streams of the others

@@ -17,7 +17,7 @@ use Rattle.host_state.specs.Steps.{next_number}
 use Rattle.host_state.specs.Idle.{stream_of}
 use Rattle.host_state.specs.State.{HostState, KeepsOpen, OpensOnly}
 use Rattle.bundle.specs.declared.grant.Grant.{Grant}
-use Rattle.host_rules.specs.Calls.{open_for, open_for_head, open_for_first}
+use Rattle.host_state.specs.Calls.{open_for, open_for_head, open_for_first}
 use Rattle.bundle.specs.Grants.{with_new, with_first}
 
 -- a transfer that starts waits no more

@@ -22,7 +22,7 @@ use Rattle.bundle.specs.Grants.{grant_starts}
 use Rattle.bundle.specs.Inside.{GivesAt, GivesAnewAt}
 use Rattle.bundle.specs.Seats.{Tables, SeatsShown, pair_granted, IsSeated, AreUnclaimed}
 use Rattle.conn_log.specs.Starts.{start_count}
-use Rattle.host_rules.proofs.Soundness.{head_is_next}
+use Rattle.host_state.proofs.Soundness.{head_is_next}
 use Rattle.bundle.proofs.Seating.{Begins, SameHolders, pair_fits, unclaimed_granted}
 
 -- the first one that waits holds nothing

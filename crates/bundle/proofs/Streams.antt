@@ -6,7 +6,7 @@ use Rattle.std.proofs.lemmas.Bool.Decides.{eqb_tells}
 use Rattle.conn_log.specs.declared.entry.Entry.{Entry}
 use Rattle.host_state.specs.Idle.{stream_of}
 use Rattle.bundle.specs.declared.grant.Grant.{Grant}
-use Rattle.host_rules.specs.Calls.{Start}
+use Rattle.host_state.specs.Calls.{Start}
 use Rattle.bundle.specs.Grants.{grant_start, grant_starts, with_stream, grant_streams, GrantsKept}
 use Rattle.bundle.specs.Lease.{start_for, IsStartOf}
 

@@ -22,14 +22,14 @@ use Rattle.host_state.specs.declared.closing.Closing.TheVariants.{Pruned}
 use Rattle.host_state.specs.Idle.{stream_of}
 use Rattle.host_state.specs.Queue.{waiting_want}
 use Rattle.bundle.specs.declared.grant.Grant.{Grant}
-use Rattle.host_rules.specs.Calls.{last_start, start_new, open_for, open_for_head, open_for_first, is_queued, makes_room_for_others, GrowsBy}
+use Rattle.host_state.specs.Calls.{last_start, start_new, open_for, open_for_head, open_for_first, is_queued, makes_room_for_others, GrowsBy}
 use Rattle.bundle.specs.Grants.{grant_starts, grant_streams, GrantsKept, with_new, with_first}
-use Rattle.host_rules.specs.Laws.{IsSoundAndQuiet}
+use Rattle.host_state.specs.Laws.{IsSoundAndQuiet}
 use Rattle.bundle.specs.Lease.{HostShown, KeepsAll}
-use Rattle.host_rules.specs.Bookings.{AreBooked}
-use Rattle.host_rules.proofs.Growth.{grows_turn, grows_evict, grows_prune}
-use Rattle.host_rules.proofs.Soundness.{held_want, kept_turn, kept_evict, kept_prune}
-use Rattle.host_rules.proofs.Transfers.{Told, told, same_told, granted_same, told_others, started_open, awaited_waits}
+use Rattle.host_state.specs.Bookings.{AreBooked}
+use Rattle.host_state.proofs.Growth.{grows_turn, grows_evict, grows_prune}
+use Rattle.host_state.proofs.Soundness.{held_want, kept_turn, kept_evict, kept_prune}
+use Rattle.host_state.proofs.Transfers.{Told, told, same_told, granted_same, told_others, started_open, awaited_waits}
 use Rattle.bundle.proofs.Granting.{Grants, grants_nothing, grants_then}
 use Rattle.bundle.proofs.Passing.{new_unheld, grants_new}
 use Rattle.bundle.proofs.Answering.{with_new_streams}

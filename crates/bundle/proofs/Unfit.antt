@@ -12,7 +12,7 @@ use Rattle.conn_log.specs.Fit.{is_older, suits, is_fit, is_idle_longer, first_by
 use Rattle.conn_log.specs.Legal.{LimitAndFirst}
 use Rattle.host_state.specs.Steps.{add, is_full}
 use Rattle.bundle.specs.declared.grant.Grant.{Grant}
-use Rattle.host_rules.specs.Calls.{start_new, open_for, open_for_head, unfit_cause, grant_to}
+use Rattle.host_state.specs.Calls.{start_new, open_for, open_for_head, unfit_cause, grant_to}
 use Rattle.bundle.specs.Grants.{IsAlone, with_new, with_granted}
 
 -- the cause as the code computes it of what was kept of the connection

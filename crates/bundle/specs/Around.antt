@@ -4,8 +4,8 @@ use Rattle.std.specs.Borrow.{MutBor}
 use Rattle.budget.specs.declared.permits.Held.{Held}
 use Rattle.budget.specs.Lobby.{Queue}
 use Rattle.budget.specs.Accounts.{KeepsSeats}
-use Rattle.host_rules.specs.Calls.{is_queued, GrowsBy}
-use Rattle.host_rules.specs.Orders.{Lists, IsMarked}
+use Rattle.host_state.specs.Calls.{is_queued, GrowsBy}
+use Rattle.host_state.specs.Orders.{Lists, IsMarked}
 use Rattle.bundle.specs.Lease.{HostShown, StaysThere, KeepsAll, KeepsStreams}
 use Rattle.bundle.specs.Lobbies.{IfLent, IfLeft, is_lent}
 use Rattle.bundle.specs.Passes.{Accounts, AccountsForStarts}

@@ -2,8 +2,8 @@
 use Rattle.std.specs.Prelude.{◌≡◌, ℕ, Bool, true}
 use Rattle.persistence.specs.declared.facts.Facts.{Facts}
 use Rattle.budget.specs.declared.permits.Try.{Try}
-use Rattle.host_rules.specs.Calls.{after_abandon, after_withdraw, is_freed}
-use Rattle.host_rules.specs.Asks.{keep_asks}
+use Rattle.host_state.specs.Calls.{after_abandon, after_withdraw, is_freed}
+use Rattle.host_state.specs.Asks.{keep_asks}
 use Rattle.bundle.specs.declared.answers.Back.{Back}
 use Rattle.bundle.specs.Lease.{HostShown, Leasing, Ticketed, is_held_lease, is_valid_ticket, KeepsItsStream, KeepsStreams, KeepsOthers, Spends}
 use Rattle.bundle.specs.Replies.{GivesBack, IsBackAs}

@@ -10,9 +10,9 @@ use Rattle.conn_log.specs.Legal.{LimitAndFirst}
 use Rattle.bundle.specs.declared.grant.Grant.{Grant}
 use Rattle.host_state.specs.declared.closing.Closing.TheVariants.{Above}
 use Rattle.host_state.specs.Steps.{moment_at, add, next_number, without_picked}
-use Rattle.host_rules.specs.Calls.{Start, last_start, open_for_head}
+use Rattle.host_state.specs.Calls.{Start, last_start, open_for_head}
 use Rattle.bundle.specs.Lease.{Using, starters}
-use Rattle.host_rules.specs.Grants.{granted_want}
+use Rattle.host_state.specs.Grants.{granted_want}
 
 -- what a transfer was granted
 abbrev pub grant_of : {S : Type 0} → List (Grant S) → ℕ → Option (Grant S)

@@ -6,7 +6,7 @@ use Rattle.conn_log.specs.Connections.{last_moment, held_number, open_connection
 use Rattle.conn_log.specs.Waiting.{waiting}
 use Rattle.host_state.specs.Steps.{is_exhausted}
 use Rattle.host_state.specs.State.{HostState, IsSameHost, KeepsOpen, KeepsOpenBut, OpensOnly}
-use Rattle.host_rules.specs.Asks.{asks_to_open}
+use Rattle.host_state.specs.Asks.{asks_to_open}
 use Rattle.bundle.specs.declared.answers.Got.{Got}
 use Rattle.bundle.specs.declared.answers.Got.TheVariants.{Lease, Wait, NoRoom, Again}
 use Rattle.bundle.specs.declared.grant.Grant.{Grant}

@@ -13,9 +13,9 @@ use Rattle.conn_log.specs.Waiting.{waiting}
 use Rattle.conn_log.specs.Bases.{is_too_long_to_cut}
 use Rattle.conn_log.specs.Legal.{LimitAndFirst}
 use Rattle.host_state.specs.Queue.{waiting_want}
-use Rattle.host_rules.specs.Calls.{Start, Wait, last_start}
+use Rattle.host_state.specs.Calls.{Start, Wait, last_start}
 use Rattle.host_state.specs.Idle.{stream_of}
-use Rattle.host_rules.specs.Grants.{granted_want}
+use Rattle.host_state.specs.Grants.{granted_want}
 
 -- what a lease tells of its host's index and of its start, and the stream of its connection that it may have
 pub record Using (S : Type 0) : Type 0 where

@@ -2,8 +2,8 @@
 use Rattle.std.specs.Prelude.{◌≡◌, ℕ, ◌<◌, ◌≤◌, Bool}
 use Rattle.budget.specs.declared.permits.Try.{Try}
 use Rattle.budget.specs.declared.permits.Try.TheVariants.{Full, Contended}
-use Rattle.host_rules.specs.Calls.{after_limit, starts_due, is_queued, is_freed}
-use Rattle.host_rules.specs.Asks.{limit_asks}
+use Rattle.host_state.specs.Calls.{after_limit, starts_due, is_queued, is_freed}
+use Rattle.host_state.specs.Asks.{limit_asks}
 use Rattle.bundle.specs.Lease.{HostShown}
 
 -- how many of those that wait the limit lets start

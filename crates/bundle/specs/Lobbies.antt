@@ -5,7 +5,7 @@ use Rattle.std.proofs.Common.{inl, inr}
 use Rattle.budget.specs.Lobby.{Queue}
 use Rattle.bundle.specs.declared.answers.Served.{Served}
 use Rattle.bundle.specs.declared.answers.Served.TheVariants.{Given, Full, Contended}
-use Rattle.host_rules.specs.Orders.{HadTurn}
+use Rattle.host_state.specs.Orders.{HadTurn}
 
 -- where a lobby is lent
 abbrev pub IfLent : Option (MutBor Queue) → (Queue → Type 0) → Type 0

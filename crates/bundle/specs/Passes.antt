@@ -17,7 +17,7 @@ use Rattle.bundle.specs.declared.answers.Changed.{Changed}
 use Rattle.bundle.specs.declared.answers.Changed.TheVariants.{Done, Again as ChangeAgain}
 use Rattle.bundle.specs.declared.did.Did.{Did}
 use Rattle.bundle.specs.declared.did.Did.TheVariants.{Wrote, Claimed, Still, Busy, Exhausted, Stranger, Held}
-use Rattle.host_rules.specs.Calls.{Start, start_entry, wait_entry}
+use Rattle.host_state.specs.Calls.{Start, start_entry, wait_entry}
 use Rattle.bundle.specs.Lease.{HostShown, Ticketed}
 use Rattle.bundle.specs.Seats.{gone}
 use Rattle.conn_log.specs.Starts.{start_count}

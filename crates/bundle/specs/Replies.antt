@@ -15,7 +15,7 @@ use Rattle.bundle.specs.declared.answers.Served.{Served}
 use Rattle.bundle.specs.declared.answers.Served.TheVariants.{Given, Full, Contended}
 use Rattle.bundle.specs.declared.answers.Changed.{Changed}
 use Rattle.bundle.specs.declared.answers.Changed.TheVariants.{Done, Again as ChangeAgain}
-use Rattle.host_rules.specs.Calls.{Reply, Returning, acquired, given_back, is_freed, starts, waits_on, no_room, again, spent, not_kept, keep_again}
+use Rattle.host_state.specs.Calls.{Reply, Returning, acquired, given_back, is_freed, starts, waits_on, no_room, again, spent, not_kept, keep_again}
 use Rattle.bundle.specs.Lease.{Leasing, Ticketed, Booked, HostShown}
 
 -- what an acquire gives, as its reply says: a lease of its start, a ticket of its wait, or its booking

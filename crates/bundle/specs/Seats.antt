@@ -8,8 +8,8 @@ use Rattle.conn_log.specs.declared.entry.Entry.{Entry}
 use Rattle.conn_log.specs.Connections.{held_number, open_connections, idle_connections}
 use Rattle.conn_log.specs.Sound.{has_number}
 use Rattle.conn_log.specs.Starts.{start_count}
-use Rattle.host_rules.specs.Calls.{Start, leased_len}
-use Rattle.host_rules.specs.Effects.{one_if}
+use Rattle.host_state.specs.Calls.{Start, leased_len}
+use Rattle.host_state.specs.Effects.{one_if}
 
 -- the tables of a host: of its starts, and of the pairs held there
 pub record Tables : Type 0 where

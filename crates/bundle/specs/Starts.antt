@@ -3,7 +3,7 @@ use Rattle.std.specs.Prelude.{◌≡◌, ℕ, Bool, List, is_some}
 use Rattle.budget.specs.declared.permits.Try.{Try}
 use Rattle.conn_log.specs.declared.entry.Want.{Want}
 use Rattle.host_state.specs.Steps.{moment_at}
-use Rattle.host_rules.specs.Asks.{open_asks}
+use Rattle.host_state.specs.Asks.{open_asks}
 use Rattle.bundle.specs.declared.answers.Got.{Got}
 use Rattle.bundle.specs.declared.answers.Got.TheVariants.{Lease, Wait, NoRoom, Again}
 use Rattle.bundle.specs.Lease.{HostShown, Leasing, Ticketed, WasGranted, HasItsStream, KeepsStreams, KeepsOthers, KeepsAll, GetsLease, GetsTicket}

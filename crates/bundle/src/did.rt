@@ -1,7 +1,7 @@
 ghost use Rattle.std.specs.Prelude.{◌≡◌, ◌<◌, length};
 ghost use Rattle.budget.specs.Accounts.{IsEnrolledAt, KeepsSeats};
 ghost use Rattle.bundle.specs.Passes.{tells, got_did, refusal_did, held_did};
-ghost use Rattle.host_rules.specs.Calls.{start_entry, wait_entry};
+ghost use Rattle.host_state.specs.Calls.{start_entry, wait_entry};
 
 use crate::answers::Got;
 use crate::lease::Lease;

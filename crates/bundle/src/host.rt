@@ -4,10 +4,10 @@ ghost use Rattle.conn_log.specs.Fit.{oldest_stamp};
 ghost use Rattle.conn_log.specs.Legal.{IsLegal, IsQuiet, limit_in_force};
 ghost use Rattle.conn_log.specs.Sound.{IsSound};
 ghost use Rattle.host_state.specs.State.{HasRoomToSpend};
-ghost use Rattle.host_rules.specs.Calls.{is_queued, leased_len};
+ghost use Rattle.host_state.specs.Calls.{is_queued, leased_len};
 ghost use Rattle.bundle.specs.Lease.{IsNewHost, HasItsStreams, UnclaimedAreStarts};
-ghost use Rattle.host_rules.specs.Counts.{snapshot_of};
-ghost use Rattle.host_rules.specs.Bookings.{AreBooked};
+ghost use Rattle.host_state.specs.Counts.{snapshot_of};
+ghost use Rattle.host_state.specs.Bookings.{AreBooked};
 ghost use Rattle.bundle.specs.Seats.{gone};
 ghost use Rattle.budget.specs.Accounts.{account_at, change_at, enrolled, IsEnrolledAt, KeepsSeats};
 ghost use Rattle.budget.specs.Starts.{Spendings};
@@ -19,8 +19,7 @@ use crate::grant::Grant;
 use crate::seats::Seats;
 use budget::{Pass, Refusal};
 use conn_log::{Log, Stamp};
-use host_rules::Snapshot;
-use host_state::State;
+use host_state::{Snapshot, State};
 use std::alloc::Global;
 use std::marker::Model;
 
@@ -39,9 +38,9 @@ pub struct Bundle<S: Drop> {
 impl<S: Drop> Model for Bundle<S> {
     ghost use Rattle.std.specs.Prelude.{◌≡◌, ◌++◌, ◌+◌, ◌≤◌, length, vec_len, vec_capacity};
     ghost use Rattle.conn_log.specs.Waiting.{waiting};
-    ghost use Rattle.host_rules.specs.Laws.{IsSoundAndQuiet};
+    ghost use Rattle.host_state.specs.Laws.{IsSoundAndQuiet};
     ghost use Rattle.bundle.specs.Lease.{HostShown};
-    ghost use Rattle.host_rules.specs.Bookings.{AreBooked};
+    ghost use Rattle.host_state.specs.Bookings.{AreBooked};
     ghost use Rattle.bundle.specs.Grants.{grant_streams, grant_starts, GrantsKept, HasSpare};
     ghost use Rattle.bundle.specs.Seats.{IsSeated, AreUnclaimed};
 

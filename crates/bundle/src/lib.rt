@@ -25,7 +25,7 @@ pub use asker::Asker;
 pub use booking::Booking;
 pub use did::Did;
 pub use host::{Bundle, MOST_HOSTS};
-pub use host_rules::Snapshot;
+pub use host_state::Snapshot;
 pub use lease::{Lease, Stray};
 pub use shortage::{NoKeep, NoRoom, Shortage, short_of_total};
 pub use ticket::Ticket;

@@ -7,8 +7,8 @@ ghost use Rattle.budget.specs.declared.permits.Try.TheVariants.{Full, Contended}
 ghost use Rattle.budget.specs.Permits.{held};
 ghost use Rattle.conn_log.specs.Connections.{open_connections, idle_connections};
 ghost use Rattle.host_state.specs.State.{KeepsOpen};
-ghost use Rattle.host_rules.specs.Calls.{after_limit, kept_limit, limit_refusal, starts_due};
-ghost use Rattle.host_rules.specs.Calls.{leased_len, is_queued, is_freed};
+ghost use Rattle.host_state.specs.Calls.{after_limit, kept_limit, limit_refusal, starts_due};
+ghost use Rattle.host_state.specs.Calls.{leased_len, is_queued, is_freed};
 ghost use Rattle.bundle.specs.Grants.{with_limit};
 ghost use Rattle.bundle.specs.Inside.{IsInside, OnlyGrants};
 ghost use Rattle.bundle.specs.Passes.{tells, limit_did};
@@ -16,10 +16,10 @@ ghost use Rattle.budget.specs.Accounts.{IsEnrolledAt};
 ghost use Rattle.host_state.specs.Steps.{moment_at};
 ghost use Rattle.bundle.specs.Around.{HoldsPart, MovesPart, KeepsUses, KeepsPass};
 ghost use Rattle.bundle.specs.Limits.{ChangesLimit, HasToAskAgain};
-ghost use Rattle.host_rules.specs.Counts.{held_by};
-ghost use Rattle.host_rules.specs.Asks.{limit_asks};
-ghost use Rattle.host_rules.specs.Laws.{IsSoundAndQuiet};
-ghost use Rattle.host_rules.specs.Orders.{Lists, IsMarked};
+ghost use Rattle.host_state.specs.Counts.{held_by};
+ghost use Rattle.host_state.specs.Asks.{limit_asks};
+ghost use Rattle.host_state.specs.Laws.{IsSoundAndQuiet};
+ghost use Rattle.host_state.specs.Orders.{Lists, IsMarked};
 ghost use Rattle.bundle.specs.Replies.{IfChanged, OnChangeAgain};
 
 use crate::answers::Changed;

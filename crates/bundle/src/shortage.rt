@@ -3,7 +3,7 @@
 ghost use Rattle.std.specs.Prelude.{◌≡◌, ◌==◌, true};
 ghost use Rattle.budget.specs.Plain.{alive_in};
 ghost use Rattle.conn_log.specs.declared.entry.Cause.TheVariants.{TotalRoom, CacheFull};
-ghost use Rattle.host_rules.specs.Calls.{makes_room_for_others};
+ghost use Rattle.host_state.specs.Calls.{makes_room_for_others};
 
 use crate::booking::Booking;
 use crate::lease::Lease;
@@ -22,7 +22,7 @@ pub struct Shortage {
 impl Model for Shortage {
     ghost use Rattle.std.specs.Prelude.{◌≡◌, true};
     ghost use Rattle.conn_log.specs.declared.entry.Cause.{Cause};
-    ghost use Rattle.host_rules.specs.Calls.{makes_room_for_others};
+    ghost use Rattle.host_state.specs.Calls.{makes_room_for_others};
 
     ghost Value = { Cause };
 

@@ -6,8 +6,8 @@
 ghost use Rattle.std.specs.Prelude.{◌≡◌, ◌<◌, length, IsSome, None, false};
 ghost use Rattle.budget.specs.Accounts.{account_at, IsEnrolledAt};
 ghost use Rattle.conn_log.specs.declared.entry.Event.TheVariants.{Returned};
-ghost use Rattle.host_rules.specs.Calls.{is_queued};
-ghost use Rattle.host_rules.specs.Counts.{held_by};
+ghost use Rattle.host_state.specs.Calls.{is_queued};
+ghost use Rattle.host_state.specs.Counts.{held_by};
 ghost use Rattle.host_state.specs.Steps.{moment_at};
 ghost use Rattle.bundle.specs.Around.{HoldsPart};
 ghost use Rattle.bundle.specs.Passes.{tells, spends, acquire_did, claim_did};

@@ -14,7 +14,7 @@ use Rattle.host_state.specs.declared.closing.Closing.TheVariants.{TooOld}
 use Rattle.host_state.specs.Steps.{moment_at, without_picked, is_full}
 use Rattle.bundle.specs.declared.answers.Got.{Got}
 use Rattle.bundle.specs.declared.answers.Got.TheVariants.{Lease, Wait, NoRoom, Again}
-use Rattle.host_rules.specs.Calls.{Reply, starts, waits_on, no_room, again, start_in_place_of, start_in_place, start_as_told, start_on, start_behind, acquired}
+use Rattle.host_state.specs.Calls.{Reply, starts, waits_on, no_room, again, start_in_place_of, start_in_place, start_as_told, start_on, start_behind, acquired}
 use Rattle.bundle.specs.Lease.{HostShown}
 use Rattle.bundle.specs.Replies.{IsGot, Acquires, is_halfway}
 

@@ -3,7 +3,7 @@
 #![tactic(auto)]
 
 ghost use Rattle.std.specs.Prelude.{◌≡◌, ◌≤◌, true, false, is_some, All, IfSome, OnSome};
-ghost use Rattle.host_rules.specs.Calls.{is_queued};
+ghost use Rattle.host_state.specs.Calls.{is_queued};
 ghost use Rattle.bundle.specs.Lease.{IsBookedHere, IsMadeAt};
 ghost use Rattle.bundle.specs.Replies.{GivesBooking, GivesLease, IfBack, IfGot, is_halfway};
 
@@ -40,10 +40,10 @@ impl Model for Host {
     ghost use Rattle.std.specs.Prelude.{◌≡◌, ◌<◌, length};
     ghost use Rattle.budget.specs.Accounts.{IsEnrolledAt};
     ghost use Rattle.budget.specs.Plain.{held_at_host};
-    ghost use Rattle.host_rules.specs.Calls.{is_queued};
+    ghost use Rattle.host_state.specs.Calls.{is_queued};
     ghost use Rattle.bundle.specs.Lease.{HostShown};
-    ghost use Rattle.host_rules.specs.Counts.{held_by};
-    ghost use Rattle.host_rules.specs.Orders.{Lists};
+    ghost use Rattle.host_state.specs.Counts.{held_by};
+    ghost use Rattle.host_state.specs.Orders.{Lists};
 
     ghost Value = { HostShown (Unit {0}) };
 

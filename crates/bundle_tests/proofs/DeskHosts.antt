@@ -9,16 +9,16 @@ use Rattle.budget.specs.Limits.{Bounds}
 use Rattle.budget.specs.Permits.{held}
 use Rattle.budget.specs.Plain.{Plain, held_at_host, nothing_held, KeepsOtherHosts}
 use Rattle.budget.specs.Lobby.{Queue}
-use Rattle.host_rules.specs.Calls.{is_queued}
+use Rattle.host_state.specs.Calls.{is_queued}
 use Rattle.bundle.specs.Lease.{HostShown, IsNewHost, StaysThere}
-use Rattle.host_rules.specs.Counts.{held_by}
+use Rattle.host_state.specs.Counts.{held_by}
 use Rattle.bundle.specs.Seats.{Tables}
-use Rattle.host_rules.specs.Orders.{Lists, IsMarked}
+use Rattle.host_state.specs.Orders.{Lists, IsMarked}
 use Rattle.bundle.specs.Lobbies.{IsServed}
 use Rattle.bundle.specs.Passes.{Accounts}
 use Rattle.bundle.specs.declared.answers.Served.{Served}
 use Rattle.bundle.specs.declared.answers.Served.TheVariants.{Given, Full, Contended}
-use Rattle.host_rules.proofs.OtherHosts.{lists_other, lists_other_after_turn}
+use Rattle.host_state.proofs.OtherHosts.{lists_other, lists_other_after_turn}
 
 differ : (host other : ℕ) → host ≢ other → (host == other) ≡ false
 differ host other two = grind (arith, nat_tests, two)

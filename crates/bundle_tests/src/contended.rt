@@ -138,10 +138,10 @@ impl Drop for ToldHost {
 impl Model for ToldHost {
     ghost use Rattle.std.specs.Prelude.{◌≡◌};
     ghost use Rattle.budget.specs.Accounts.{IsEnrolledAt};
-    ghost use Rattle.host_rules.specs.Calls.{is_queued};
+    ghost use Rattle.host_state.specs.Calls.{is_queued};
     ghost use Rattle.bundle.specs.Seats.{Tables};
-    ghost use Rattle.host_rules.specs.Counts.{held_by};
-    ghost use Rattle.host_rules.specs.Orders.{Lists};
+    ghost use Rattle.host_state.specs.Counts.{held_by};
+    ghost use Rattle.host_state.specs.Orders.{Lists};
 
     ghost Value = { Tables };
 

@@ -76,10 +76,10 @@ impl<S: Drop> Model for Desk<S> {
     ghost use Rattle.std.specs.Prelude.{◌≡◌, ◌≢◌, ◌<◌, ◌≤◌, length};
     ghost use Rattle.budget.specs.Accounts.{IsEnrolledAt};
     ghost use Rattle.budget.specs.Plain.{held_at_host};
-    ghost use Rattle.host_rules.specs.Calls.{is_queued};
+    ghost use Rattle.host_state.specs.Calls.{is_queued};
     ghost use Rattle.bundle_tests.specs.Desks.{TwoHosts};
-    ghost use Rattle.host_rules.specs.Counts.{held_by};
-    ghost use Rattle.host_rules.specs.Orders.{Lists};
+    ghost use Rattle.host_state.specs.Counts.{held_by};
+    ghost use Rattle.host_state.specs.Orders.{Lists};
 
     ghost Value = { TwoHosts };
 

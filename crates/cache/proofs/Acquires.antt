@@ -14,11 +14,11 @@ use Rattle.conn_log.specs.Legal.{LimitAndFirst}
 use Rattle.std.specs.List.{list_any, filter}
 use Rattle.host_state.specs.Steps.{moment_at, close_each, cause_of, picked}
 use Rattle.host_state.specs.declared.closing.Closing.TheVariants.{TooOld}
-use Rattle.host_rules.specs.Calls.{Reply, starts, waits_on, no_room, again, acquired as acquired_at, is_busy}
-use Rattle.host_rules.specs.Effects.{open_len, idle_len, DoesAs, tidied, asks_for_one, is_got, one_if}
-use Rattle.host_rules.specs.Laws.{IsSoundAndQuiet}
-use Rattle.host_rules.proofs.Soundness.{later, neither, free_of, passing_idle, HasClosedIdle, closes_idle, kept_acquired}
-use Rattle.host_rules.proofs.Counts.{acquire_tidies, acquired_does}
+use Rattle.host_state.specs.Calls.{Reply, starts, waits_on, no_room, again, acquired as acquired_at, is_busy}
+use Rattle.host_state.specs.Effects.{open_len, idle_len, DoesAs, tidied, asks_for_one, is_got, one_if}
+use Rattle.host_state.specs.Laws.{IsSoundAndQuiet}
+use Rattle.host_state.proofs.Soundness.{later, neither, free_of, passing_idle, HasClosedIdle, closes_idle, kept_acquired}
+use Rattle.host_state.proofs.Counts.{acquire_tidies, acquired_does}
 use Rattle.cache.specs.AllHosts.{AllHosts, log_at, terms, total, kept, has_room, without_oldest, IsLawful, IsAtRest}
 use Rattle.cache.specs.Calls.{with_tidied, with_room_for, told_of_total, started, acquired, after_acquire}
 use Rattle.cache.specs.Laws.{HasNothing}

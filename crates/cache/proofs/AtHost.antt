@@ -6,7 +6,7 @@ use Rattle.budget.specs.Limits.{Bounds}
 use Rattle.conn_log.specs.declared.entry.Want.{Want}
 use Rattle.conn_log.specs.Connections.{is_open}
 use Rattle.conn_log.specs.Sound.{IsSound}
-use Rattle.host_rules.specs.Calls.{Reply}
+use Rattle.host_state.specs.Calls.{Reply}
 use Rattle.bundle.specs.declared.answers.Acquired.TheVariants.{Lease, Wait}
 use Rattle.bundle.specs.declared.answers.Claimed.{Claimed}
 use Rattle.bundle.specs.declared.answers.Claimed.TheVariants.{Lease as Granted, Still}

@@ -9,9 +9,9 @@ use Rattle.conn_log.specs.declared.entry.Entry.{Entry}
 use Rattle.conn_log.specs.Connections.{is_among, holds}
 use Rattle.conn_log.specs.Waiting.{waits}
 use Rattle.conn_log.specs.Legal.{LimitAndFirst}
-use Rattle.host_rules.specs.Calls.{Reply, refusal, is_busy, GrowsBy}
+use Rattle.host_state.specs.Calls.{Reply, refusal, is_busy, GrowsBy}
 use Rattle.bundle.specs.Lease.{HostShown, Leasing, Ticketed, StaysThere, KeepsAll, KeepsStreams, HasItsStream}
-use Rattle.host_rules.specs.Bookings.{without_booked}
+use Rattle.host_state.specs.Bookings.{without_booked}
 use Rattle.cache.specs.AllHosts.{AllHosts}
 use Rattle.bundle.specs.declared.answers.Acquired.{Acquired as AcquiredOf}
 use Rattle.bundle.specs.declared.answers.Acquired.TheVariants.{Lease as LeaseOf, Wait as WaitOf}

@@ -17,12 +17,12 @@ use Rattle.conn_log.proofs.Soundness.{next_is_new}
 use Rattle.conn_log.proofs.Steps.{new_not_closed, idle_open_unheld, fewer_open, gone_closed}
 use Rattle.host_state.specs.Steps.{moment_at, add, close_each, cause_of, picked, is_full, next_number}
 use Rattle.host_state.specs.declared.closing.Closing.TheVariants.{TooOld}
-use Rattle.host_rules.specs.Calls.{Reply, no_room, again, Acquired, acquired, start, start_behind, start_on, start_as_told, start_in_place_of, start_in_place, start_new, is_anyone}
-use Rattle.host_rules.specs.Effects.{open_len, tidied, asks_for_one, Closes}
-use Rattle.host_rules.specs.Laws.{IsSoundAndQuiet}
-use Rattle.host_rules.proofs.Soundness.{someone}
-use Rattle.host_rules.proofs.TooOldCloses.{none_too_old_left}
-use Rattle.host_rules.proofs.Counts.{acquire_tidies}
+use Rattle.host_state.specs.Calls.{Reply, no_room, again, Acquired, acquired, start, start_behind, start_on, start_as_told, start_in_place_of, start_in_place, start_new, is_anyone}
+use Rattle.host_state.specs.Effects.{open_len, tidied, asks_for_one, Closes}
+use Rattle.host_state.specs.Laws.{IsSoundAndQuiet}
+use Rattle.host_state.proofs.Soundness.{someone}
+use Rattle.host_state.proofs.TooOldCloses.{none_too_old_left}
+use Rattle.host_state.proofs.Counts.{acquire_tidies}
 
 -- closing leaves who waits, and a call's moment
 still_wait : (cause : Cause) (moment : ℕ) (numbers : List ℕ) (log : List Entry) → waiting (close_each cause moment numbers log) ≡ waiting log

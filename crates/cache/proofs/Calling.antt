@@ -15,13 +15,13 @@ use Rattle.conn_log.specs.declared.entry.Event.TheVariants.{Closed, Left}
 use Rattle.conn_log.specs.Fit.{oldest_stamp}
 use Rattle.bundle.specs.declared.did.Did.{Did}
 use Rattle.bundle.specs.declared.did.Did.TheVariants.{Wrote}
-use Rattle.host_rules.specs.Calls.{Start, is_queued}
-use Rattle.host_rules.specs.Laws.{IsSoundAndQuiet}
+use Rattle.host_state.specs.Calls.{Start, is_queued}
+use Rattle.host_state.specs.Laws.{IsSoundAndQuiet}
 use Rattle.bundle.specs.Lease.{HostShown, StaysThere}
-use Rattle.host_rules.specs.Counts.{held_by}
-use Rattle.host_rules.specs.Orders.{IsMarked}
+use Rattle.host_state.specs.Counts.{held_by}
+use Rattle.host_state.specs.Orders.{IsMarked}
 use Rattle.bundle.specs.Passes.{Accounts, tells, spends, withdraws, AccountsForStarts}
-use Rattle.host_rules.proofs.OtherHosts.{still_listed}
+use Rattle.host_state.proofs.OtherHosts.{still_listed}
 use Rattle.cache.specs.Oldest.{earlier_of, is_before, is_since_before, stamp_at}
 use Rattle.cache.specs.Pools.{IsKeptHost, AreKept}
 use Rattle.cache.proofs.NotedStamps.{lowered_not_later, set_not_later}

@@ -7,10 +7,10 @@ use Rattle.conn_log.specs.Connections.{is_among, holder_want, held_number}
 use Rattle.conn_log.specs.Waiting.{waiting}
 use Rattle.host_state.specs.Queue.{waiting_want}
 use Rattle.conn_log.specs.Sound.{IsSound}
-use Rattle.host_rules.specs.Calls.{Start}
+use Rattle.host_state.specs.Calls.{Start}
 use Rattle.bundle.specs.Lease.{HostShown, UnclaimedAreStarts, KeepsAll, starters, start_for, is_unclaimed, ticket_want}
-use Rattle.host_rules.specs.Grants.{granted_want}
-use Rattle.host_rules.proofs.Soundness.{held_want}
+use Rattle.host_state.specs.Grants.{granted_want}
+use Rattle.host_state.proofs.Soundness.{held_want}
 use Rattle.cache.specs.Pools.{PoolShown, host_in, host_at}
 use Rattle.cache.specs.Turns.{KeepsSpent}
 use Rattle.cache.proofs.OneHost.{host_changed, other_host}

@@ -8,11 +8,11 @@ use Rattle.conn_log.specs.declared.entry.Event.TheVariants.{Closed}
 use Rattle.conn_log.specs.declared.entry.Entry.{Entry}
 use Rattle.conn_log.specs.Fit.{oldest, oldest_stamp}
 use Rattle.host_state.specs.Steps.{moment_at, add}
-use Rattle.host_rules.specs.Calls.{makes_room_for_others}
-use Rattle.host_rules.specs.Effects.{Closes}
-use Rattle.host_rules.specs.Laws.{IsSoundAndQuiet}
+use Rattle.host_state.specs.Calls.{makes_room_for_others}
+use Rattle.host_state.specs.Effects.{Closes}
+use Rattle.host_state.specs.Laws.{IsSoundAndQuiet}
 use Rattle.bundle.specs.Lease.{HostShown}
-use Rattle.host_rules.proofs.Counts.{evict_closes}
+use Rattle.host_state.proofs.Counts.{evict_closes}
 use Rattle.bundle.proofs.TurnLogs.{of_idle_for_others}
 use Rattle.cache.specs.AllHosts.{AllHosts, log_at, with_log, closed_of, without_oldest, oldest_of_all}
 use Rattle.cache.specs.Pools.{PoolShown, host_in, all_hosts}

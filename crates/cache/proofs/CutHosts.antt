@@ -13,7 +13,7 @@ use Rattle.conn_log.specs.declared.stamp.Stamp.{Stamp}
 use Rattle.conn_log.specs.declared.entry.Entry.{Entry}
 use Rattle.bundle.specs.Lease.{HostShown, IsPartOf, cut_refusal}
 use Rattle.bundle.specs.Passes.{Accounts}
-use Rattle.host_rules.specs.Counts.{held_by}
+use Rattle.host_state.specs.Counts.{held_by}
 use Rattle.cache.specs.Oldest.{stamp_at}
 use Rattle.cache.specs.Pools.{no_host, host_in, all_hosts, cut_host, IsKeptHost, AreKept}
 use Rattle.cache.specs.PoolCalls.{CutsHost}

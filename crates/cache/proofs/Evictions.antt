@@ -22,10 +22,10 @@ use Rattle.conn_log.proofs.Firsts.{first_among}
 use Rattle.conn_log.proofs.Holdings.{unless_it_is, number_closed, holder_closed}
 use Rattle.conn_log.proofs.Steps.{idle_open_unheld}
 use Rattle.host_state.specs.Steps.{moment_at, add}
-use Rattle.host_rules.specs.Calls.{is_anyone, returned, becomes_idle}
-use Rattle.host_rules.specs.Effects.{open_len, idle_len, Closes}
-use Rattle.host_rules.proofs.Soundness.{none_first, held_want}
-use Rattle.host_rules.proofs.Counts.{evict_closes}
+use Rattle.host_state.specs.Calls.{is_anyone, returned, becomes_idle}
+use Rattle.host_state.specs.Effects.{open_len, idle_len, Closes}
+use Rattle.host_state.proofs.Soundness.{none_first, held_want}
+use Rattle.host_state.proofs.Counts.{evict_closes}
 use Rattle.cache.specs.Oldest.{earlier_of, earliest, stamps_from, stamp_at}
 use Rattle.cache.specs.AllHosts.{AllHosts, log_at, terms, total, kept, waiting_len, total_waiting, oldest_of_all, closed_of, without_oldest, IsLawful}
 use Rattle.cache.proofs.StampOrder.{earliest_own, there_at, length_stamps, stamp_from, own_host}

@@ -13,9 +13,9 @@ use Rattle.conn_log.specs.declared.entry.Cause.TheVariants.{TotalRoom, CacheFull
 use Rattle.conn_log.specs.declared.entry.Entry.{Entry}
 use Rattle.host_state.specs.Steps.{moment_at}
 use Rattle.host_state.specs.declared.closing.Closing.TheVariants.{TooOld}
-use Rattle.host_rules.specs.Calls.{GrowsBy, becomes_idle, kept_limit, starts_due, is_queued}
-use Rattle.host_rules.specs.Effects.{asks_for_one}
-use Rattle.host_rules.proofs.Growth.{grows_same, grows_without, grows_acquired, grows_give_back, grows_abandon, grows_withdraw, grows_turn, grows_evict, grows_prune, grows_limit}
+use Rattle.host_state.specs.Calls.{GrowsBy, becomes_idle, kept_limit, starts_due, is_queued}
+use Rattle.host_state.specs.Effects.{asks_for_one}
+use Rattle.host_state.proofs.Growth.{grows_same, grows_without, grows_acquired, grows_give_back, grows_abandon, grows_withdraw, grows_turn, grows_evict, grows_prune, grows_limit}
 use Rattle.cache.specs.AllHosts.{AllHosts, log_at, terms, total, has_room, can_keep, total_waiting, oldest_of_all, closed_of, without_oldest, after_turn_of, with_room, turn_of_first, may_turn, after_turns, served}
 use Rattle.cache.specs.Calls.{with_tidied, with_room_for, told_of_total, acquired, after_acquire, with_room_to_keep, given_back, after_giving_back, abandoned, after_abandoning, withdrawn, after_withdrawing, pruned_log, pruned, after_prune, limited, after_limit_of}
 use Rattle.cache.specs.Laws.{Grow}

@@ -8,9 +8,9 @@ use Rattle.std.proofs.lemmas.List.Sums.{sum_by-cons, sum_by-set}
 use Rattle.budget.specs.Plain.{Plain, alive_in, kept_in}
 use Rattle.budget.specs.declared.permits.Held.{Held}
 use Rattle.conn_log.specs.declared.entry.Entry.{Entry}
-use Rattle.host_rules.specs.Effects.{open_len, idle_len, Closes, OpensForHead}
+use Rattle.host_state.specs.Effects.{open_len, idle_len, Closes, OpensForHead}
 use Rattle.bundle.specs.Lease.{HostShown}
-use Rattle.host_rules.specs.Counts.{held_by}
+use Rattle.host_state.specs.Counts.{held_by}
 use Rattle.conn_log.specs.Legal.{LimitAndFirst}
 use Rattle.cache.specs.AllHosts.{AllHosts, log_at, with_log, total, total_waiting, waiting_len}
 use Rattle.cache.specs.Pools.{logs_of}

@@ -3,7 +3,7 @@ use Rattle.std.proofs.Common.{◌≡◌, ℕ, ◌<◌, true, false, List, [], �
 use Rattle.std.specs.Prelude.{◌==◌, if◌then◌else◌}
 use Rattle.conn_log.specs.declared.entry.Want.{Want}
 use Rattle.conn_log.specs.declared.entry.Entry.{Entry}
-use Rattle.host_rules.specs.Calls.{GrowsBy}
+use Rattle.host_state.specs.Calls.{GrowsBy}
 use Rattle.conn_log.specs.Connections.{is_open}
 use Rattle.bundle.specs.Lease.{HostShown, Leasing, StaysThere, KeepsAll, KeepsItsStream, GetsLease, GetsTicket, Spends, is_unclaimed}
 use Rattle.cache.specs.Pools.{PoolShown, host_at, StaysHost, KeepsHost, StaysPool, KeepsHosts, KeepsOtherHosts, StreamsStay, OtherStreamsStay}

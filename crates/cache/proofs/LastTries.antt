@@ -16,13 +16,13 @@ use Rattle.conn_log.specs.declared.entry.Entry.{Entry}
 use Rattle.conn_log.specs.Connections.{idle_connections}
 use Rattle.conn_log.specs.Legal.{LimitAndFirst}
 use Rattle.bundle.specs.declared.answers.Got.TheVariants.{Lease as GotLease, Wait as GotWait, NoRoom, Again}
-use Rattle.host_rules.specs.Calls.{Reply, starts, waits_on, no_room, again, acquired as acquired_at, is_queued, Acquired as AcquiredAt}
-use Rattle.host_rules.specs.Orders.{order_after}
+use Rattle.host_state.specs.Calls.{Reply, starts, waits_on, no_room, again, acquired as acquired_at, is_queued, Acquired as AcquiredAt}
+use Rattle.host_state.specs.Orders.{order_after}
 use Rattle.budget.specs.Lobby.{is_listed}
-use Rattle.host_rules.specs.Effects.{open_len, idle_len}
-use Rattle.host_rules.specs.Laws.{IsSoundAndQuiet}
+use Rattle.host_state.specs.Effects.{open_len, idle_len}
+use Rattle.host_state.specs.Laws.{IsSoundAndQuiet}
 use Rattle.bundle.specs.Lease.{HostShown, Leasing, Ticketed, Booked}
-use Rattle.host_rules.specs.Counts.{held_by}
+use Rattle.host_state.specs.Counts.{held_by}
 use Rattle.bundle.specs.Replies.{IsGot}
 use Rattle.bundle.specs.declared.answers.Acquired.TheVariants.{Lease, Wait}
 use Rattle.cache.specs.AllHosts.{AllHosts, log_at, with_log, terms, total, kept, has_room, with_room, without_oldest, marked}

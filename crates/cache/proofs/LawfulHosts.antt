@@ -5,7 +5,7 @@ use Rattle.std.proofs.lemmas.List.{length-map}
 use Rattle.budget.specs.Lobby.{Queue, IsQueue, is_listed}
 use Rattle.budget.specs.Plain.{Plain, IsWithin}
 use Rattle.conn_log.specs.declared.stamp.Stamp.{Stamp}
-use Rattle.host_rules.specs.Calls.{is_queued}
+use Rattle.host_state.specs.Calls.{is_queued}
 use Rattle.bundle.specs.Lease.{HostShown}
 use Rattle.bundle.specs.Passes.{Accounts}
 use Rattle.cache.specs.AllHosts.{IsLawful, terms, log_at}

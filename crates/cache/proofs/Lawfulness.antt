@@ -14,11 +14,11 @@ use Rattle.conn_log.specs.Connections.{idle_connections}
 use Rattle.conn_log.specs.Waiting.{waiting}
 use Rattle.conn_log.specs.Legal.{LimitAndFirst}
 use Rattle.host_state.specs.Steps.{is_full}
-use Rattle.host_rules.specs.Calls.{is_anyone, is_queued}
-use Rattle.host_rules.specs.Effects.{open_len, idle_len}
-use Rattle.host_rules.specs.Laws.{IsSoundAndQuiet}
-use Rattle.host_rules.specs.Orders.{order_after_turn}
-use Rattle.host_rules.proofs.Soundness.{someone}
+use Rattle.host_state.specs.Calls.{is_anyone, is_queued}
+use Rattle.host_state.specs.Effects.{open_len, idle_len}
+use Rattle.host_state.specs.Laws.{IsSoundAndQuiet}
+use Rattle.host_state.specs.Orders.{order_after_turn}
+use Rattle.host_state.proofs.Soundness.{someone}
 use Rattle.cache.specs.AllHosts.{AllHosts, log_at, with_log, terms, total, kept, queue_after, marked, IsLawful}
 
 -- the log of the host that changes, and of another

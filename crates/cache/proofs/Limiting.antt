@@ -13,14 +13,14 @@ use Rattle.conn_log.specs.Legal.{LimitAndFirst}
 use Rattle.conn_log.specs.Waiting.{waiting}
 use Rattle.bundle.specs.declared.answers.Changed.{Changed}
 use Rattle.bundle.specs.declared.answers.Changed.TheVariants.{Done, Again}
-use Rattle.host_rules.specs.Calls.{after_limit, kept_limit, limit_refusal, starts_due, is_queued}
-use Rattle.host_rules.specs.Effects.{open_len}
-use Rattle.host_rules.specs.Laws.{IsSoundAndQuiet}
+use Rattle.host_state.specs.Calls.{after_limit, kept_limit, limit_refusal, starts_due, is_queued}
+use Rattle.host_state.specs.Effects.{open_len}
+use Rattle.host_state.specs.Laws.{IsSoundAndQuiet}
 use Rattle.bundle.specs.Lease.{HostShown}
-use Rattle.host_rules.specs.Counts.{held_by}
+use Rattle.host_state.specs.Counts.{held_by}
 use Rattle.bundle.specs.Replies.{IfChanged, OnChangeAgain}
 use Rattle.bundle.specs.Limits.{ChangesLimit, HasToAskAgain}
-use Rattle.host_rules.proofs.Counts.{limit_changes}
+use Rattle.host_state.proofs.Counts.{limit_changes}
 use Rattle.cache.specs.Pools.{logs_of}
 use Rattle.cache.proofs.OneHost.{logs_changed, log_was}
 use Rattle.cache.proofs.Sums.{total_is}

@@ -15,9 +15,9 @@ use Rattle.conn_log.specs.declared.stamp.Stamp.{Stamp}
 use Rattle.conn_log.proofs.Soundness.{sound_empty}
 use Rattle.bundle.specs.declared.did.Did.{Did}
 use Rattle.bundle.specs.Lease.{HostShown, IsNewHost}
-use Rattle.host_rules.specs.Counts.{held_by}
+use Rattle.host_state.specs.Counts.{held_by}
 use Rattle.bundle.specs.Passes.{Accounts}
-use Rattle.host_rules.proofs.Soundness.{nobody_after}
+use Rattle.host_state.proofs.Soundness.{nobody_after}
 use Rattle.cache.specs.AllHosts.{terms}
 use Rattle.cache.specs.NewHosts.{AreNewHosts, new_seat, first_number}
 use Rattle.cache.specs.Oldest.{stamp_at}

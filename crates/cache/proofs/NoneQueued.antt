@@ -4,7 +4,7 @@ use Rattle.std.specs.Prelude.{slice_get, is_some}
 use Rattle.budget.specs.Limits.{Bounds}
 use Rattle.budget.specs.Lobby.{is_listed}
 use Rattle.bundle.specs.Lease.{HostShown}
-use Rattle.host_rules.specs.Orders.{order_after}
+use Rattle.host_state.specs.Orders.{order_after}
 use Rattle.cache.specs.Pools.{PoolShown}
 use Rattle.cache.proofs.SameLog.{hosts_same, shown_as}
 

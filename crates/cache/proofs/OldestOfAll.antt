@@ -9,7 +9,7 @@ use Rattle.conn_log.specs.declared.stamp.Stamp.{Stamp}
 use Rattle.conn_log.specs.declared.entry.Entry.{Entry}
 use Rattle.conn_log.specs.Connections.{idle_connections}
 use Rattle.conn_log.specs.Fit.{first_by, is_earlier, is_idle_longer, oldest, oldest_stamp, stamp_of}
-use Rattle.host_rules.specs.Effects.{idle_len}
+use Rattle.host_state.specs.Effects.{idle_len}
 use Rattle.cache.specs.Oldest.{earlier_of, earliest, stamps_from}
 use Rattle.cache.specs.AllHosts.{AllHosts, log_at, kept, oldest_of_all}
 

@@ -24,9 +24,9 @@ use Rattle.conn_log.proofs.Holdings.{holder_closed, holder_returned}
 use Rattle.conn_log.proofs.Steps.{is_idle_is, is_open_is, open_before}
 use Rattle.host_state.specs.Steps.{moment_at, add, close_each, cause_of, picked, is_full, next_number}
 use Rattle.host_state.specs.declared.closing.Closing.TheVariants.{TooOld}
-use Rattle.host_rules.specs.Calls.{acquired, start, start_behind, start_on, start_as_told, start_in_place_of, start_in_place, start_new, open_for, grant_to, unfit_cause, settle, after_give_back}
-use Rattle.host_rules.specs.Effects.{tidied}
-use Rattle.host_rules.proofs.Soundness.{none_first}
+use Rattle.host_state.specs.Calls.{acquired, start, start_behind, start_on, start_as_told, start_in_place_of, start_in_place, start_new, open_for, grant_to, unfit_cause, settle, after_give_back}
+use Rattle.host_state.specs.Effects.{tidied}
+use Rattle.host_state.proofs.Soundness.{none_first}
 use Rattle.cache.specs.Oldest.{is_before, is_since_before}
 
 -- what is idle after it was idle before, and since then

@@ -14,11 +14,11 @@ use Rattle.conn_log.specs.declared.stamp.Stamp.{Stamp}
 use Rattle.conn_log.specs.declared.entry.Entry.{Entry}
 use Rattle.conn_log.specs.Fit.{oldest_stamp}
 use Rattle.conn_log.specs.Legal.{LimitAndFirst}
-use Rattle.host_rules.specs.Calls.{is_queued}
-use Rattle.host_rules.specs.Laws.{IsSoundAndQuiet}
+use Rattle.host_state.specs.Calls.{is_queued}
+use Rattle.host_state.specs.Laws.{IsSoundAndQuiet}
 use Rattle.bundle.specs.Lease.{HostShown, StaysThere}
-use Rattle.host_rules.specs.Counts.{held_by}
-use Rattle.host_rules.specs.Orders.{order_after}
+use Rattle.host_state.specs.Counts.{held_by}
+use Rattle.host_state.specs.Orders.{order_after}
 use Rattle.bundle.specs.Passes.{Accounts}
 use Rattle.bundle.specs.Seats.{gone}
 use Rattle.cache.specs.Oldest.{is_before, stamp_at}

@@ -18,15 +18,15 @@ use Rattle.conn_log.specs.Fit.{oldest_stamp}
 use Rattle.conn_log.specs.Legal.{LimitAndFirst}
 use Rattle.bundle.specs.declared.answers.Served.{Served}
 use Rattle.bundle.specs.declared.answers.Served.TheVariants.{Given}
-use Rattle.host_rules.specs.Calls.{after_turn, is_queued}
-use Rattle.host_rules.specs.Effects.{open_len, idle_len, OpensForHead}
-use Rattle.host_rules.specs.Laws.{IsSoundAndQuiet}
+use Rattle.host_state.specs.Calls.{after_turn, is_queued}
+use Rattle.host_state.specs.Effects.{open_len, idle_len, OpensForHead}
+use Rattle.host_state.specs.Laws.{IsSoundAndQuiet}
 use Rattle.bundle.specs.Lease.{HostShown}
-use Rattle.host_rules.specs.Counts.{held_by}
-use Rattle.host_rules.specs.Orders.{order_after_turn, HadTurn}
+use Rattle.host_state.specs.Counts.{held_by}
+use Rattle.host_state.specs.Orders.{order_after_turn, HadTurn}
 use Rattle.bundle.specs.Lobbies.{IsServed}
-use Rattle.host_rules.proofs.Counts.{turn_opens}
-use Rattle.host_rules.proofs.OtherHosts.{listed_after_turn}
+use Rattle.host_state.proofs.Counts.{turn_opens}
+use Rattle.host_state.proofs.OtherHosts.{listed_after_turn}
 use Rattle.cache.specs.Oldest.{is_before, stamp_at}
 use Rattle.cache.specs.AllHosts.{AllHosts, terms, log_at, has_room, total_waiting, after_turn_of}
 use Rattle.cache.specs.Pools.{no_host, logs_of, host_in, all_hosts}

@@ -3,7 +3,7 @@ use Rattle.std.proofs.Common.{◌≡◌, ℕ, ◌<◌, ◌==◌, Bool, true, fal
 use Rattle.std.specs.Prelude.{if◌then◌else◌, OnErr, IfOk, IfErr}
 use Rattle.std.proofs.lemmas.Bool.Decides.{nat_tests}
 use Rattle.conn_log.specs.declared.entry.Want.{Want}
-use Rattle.host_rules.specs.Calls.{Reply, Start, starts, waits_on, no_room, again}
+use Rattle.host_state.specs.Calls.{Reply, Start, starts, waits_on, no_room, again}
 use Rattle.bundle.specs.Lease.{Leasing, Ticketed, Spends, ticket_want, is_unclaimed}
 use Rattle.bundle.specs.declared.answers.Acquired.TheVariants.{Lease, Wait}
 use Rattle.bundle.specs.declared.answers.Claimed.{Claimed}

@@ -10,10 +10,10 @@ use Rattle.conn_log.specs.Connections.{idle_connections, born, since}
 use Rattle.conn_log.specs.Fit.{is_older, is_idle_longer, in_order}
 use Rattle.host_state.specs.Steps.{moment_at, close_each, cause_of}
 use Rattle.host_state.specs.declared.closing.Closing.TheVariants.{Pruned}
-use Rattle.host_rules.specs.Calls.{kept_limit, limit_refusal, after_limit, starts_due, is_queued}
-use Rattle.host_rules.specs.Effects.{open_len, idle_len}
-use Rattle.host_rules.specs.Laws.{IsSoundAndQuiet}
-use Rattle.host_rules.proofs.Counts.{prune_closes, limit_changes}
+use Rattle.host_state.specs.Calls.{kept_limit, limit_refusal, after_limit, starts_due, is_queued}
+use Rattle.host_state.specs.Effects.{open_len, idle_len}
+use Rattle.host_state.specs.Laws.{IsSoundAndQuiet}
+use Rattle.host_state.proofs.Counts.{prune_closes, limit_changes}
 use Rattle.cache.specs.AllHosts.{AllHosts, log_at, terms, total, IsLawful, IsAtRest}
 use Rattle.cache.specs.Calls.{pruned_log, pruned, after_prune, limited, after_limit_of}
 use Rattle.cache.proofs.Lawfulness.{lawful_marked, queued_same}

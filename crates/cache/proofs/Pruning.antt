@@ -7,10 +7,10 @@ use Rattle.std.proofs.lemmas.List.Sums.{sum_by-cons, sum_by-set}
 use Rattle.budget.specs.Limits.{Bounds}
 use Rattle.conn_log.specs.declared.entry.Entry.{Entry}
 use Rattle.conn_log.specs.Legal.{LimitAndFirst}
-use Rattle.host_rules.specs.Effects.{idle_len}
-use Rattle.host_rules.specs.Laws.{IsSoundAndQuiet}
+use Rattle.host_state.specs.Effects.{idle_len}
+use Rattle.host_state.specs.Laws.{IsSoundAndQuiet}
 use Rattle.bundle.specs.Lease.{HostShown}
-use Rattle.host_rules.proofs.Counts.{prune_closes}
+use Rattle.host_state.proofs.Counts.{prune_closes}
 use Rattle.cache.specs.AllHosts.{AllHosts, log_at, with_log, kept}
 use Rattle.cache.specs.Calls.{pruned, pruned_log, pruned_at, prune_count}
 use Rattle.cache.specs.Pools.{PoolShown, host_in, logs_of, all_hosts, KeepsHost, StaysPool, KeepsHosts}

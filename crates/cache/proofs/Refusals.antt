@@ -6,7 +6,7 @@ use Rattle.budget.specs.declared.refusal.Refusal.{Refusal}
 use Rattle.budget.specs.declared.refusal.Refusal.TheVariants.{Memory}
 use Rattle.budget.specs.declared.refusal.Refusal.TheVariants.{BadSite}
 use Rattle.conn_log.specs.declared.entry.Want.{Want}
-use Rattle.host_rules.specs.Calls.{refusal, limit_refusal}
+use Rattle.host_state.specs.Calls.{refusal, limit_refusal}
 use Rattle.cache.specs.Pools.{PoolShown, host_at}
 use Rattle.cache.specs.PoolCalls.{IsReason, acquire_refusal, limit_refusal_at}
 

@@ -12,7 +12,7 @@ use Rattle.conn_log.specs.Fit.{newest_fit, oldest}
 use Rattle.conn_log.specs.Legal.{LimitAndFirst}
 use Rattle.host_state.specs.declared.closing.Closing.TheVariants.{TooOld}
 use Rattle.host_state.specs.Steps.{moment_at, is_full, without_picked}
-use Rattle.host_rules.specs.Calls.{start_in_place_of, start_in_place, start_as_told, start_on, start_behind}
+use Rattle.host_state.specs.Calls.{start_in_place_of, start_in_place, start_as_told, start_on, start_behind}
 use Rattle.cache.specs.AllHosts.{AllHosts, log_at, terms, has_room}
 use Rattle.cache.specs.Calls.{with_tidied, with_room_for, reply_of}
 use Rattle.cache.specs.Laws.{AnswersWant}

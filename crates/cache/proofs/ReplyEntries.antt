@@ -10,8 +10,8 @@ use Rattle.conn_log.specs.declared.entry.Event.TheVariants.{Opened, Leased}
 use Rattle.conn_log.specs.declared.entry.Entry.{Entry}
 use Rattle.conn_log.specs.Connections.{held_number}
 use Rattle.conn_log.specs.Waiting.{waiting, waits}
-use Rattle.host_rules.specs.Calls.{Start, Wait, starts, waits_on, acquired as acquired_at, is_busy, start_entry, wait_entry}
-use Rattle.host_rules.proofs.Tellings.{start_written, wait_written}
+use Rattle.host_state.specs.Calls.{Start, Wait, starts, waits_on, acquired as acquired_at, is_busy, start_entry, wait_entry}
+use Rattle.host_state.proofs.Tellings.{start_written, wait_written}
 use Rattle.cache.specs.AllHosts.{AllHosts, log_at, terms, IsLawful}
 use Rattle.cache.specs.Calls.{with_tidied, with_room_for, told_of_total, acquired, after_acquire, reply_of}
 use Rattle.cache.specs.Laws.{AnswersWant, OnlyServed}

@@ -7,10 +7,10 @@ use Rattle.budget.specs.Limits.{Bounds}
 use Rattle.budget.specs.Lobby.{is_listed, AreDistinctHosts}
 use Rattle.conn_log.specs.declared.entry.Entry.{Entry}
 use Rattle.conn_log.proofs.Soundness.{sound_empty}
-use Rattle.host_rules.specs.Calls.{is_queued}
-use Rattle.host_rules.specs.Effects.{open_len, idle_len}
-use Rattle.host_rules.specs.Laws.{IsSoundAndQuiet}
-use Rattle.host_rules.proofs.Soundness.{nobody_after}
+use Rattle.host_state.specs.Calls.{is_queued}
+use Rattle.host_state.specs.Effects.{open_len, idle_len}
+use Rattle.host_state.specs.Laws.{IsSoundAndQuiet}
+use Rattle.host_state.proofs.Soundness.{nobody_after}
 use Rattle.cache.specs.AllHosts.{AllHosts, log_at, terms, is_any, IsLawful, IsAtRest}
 
 none_counted : (count : List Entry → ℕ) → count [] ≡ 0 → (logs : List (List Entry)) → ((host : ℕ) → slice_index_or logs host [] ≡ []) → sum_by count logs ≡ 0

@@ -18,14 +18,14 @@ use Rattle.conn_log.specs.Sound.{IsSound, has_number}
 use Rattle.host_state.specs.Steps.{moment_at}
 use Rattle.bundle.specs.declared.answers.Back.{Back}
 use Rattle.bundle.specs.declared.answers.Back.TheVariants.{Spent, NoKeep, Again, Strange}
-use Rattle.host_rules.specs.Calls.{spent, returned, after_give_back, becomes_idle, keep_as_told, given_back}
-use Rattle.host_rules.specs.Effects.{idle_len, one_if}
-use Rattle.host_rules.specs.Laws.{IsSoundAndQuiet}
+use Rattle.host_state.specs.Calls.{spent, returned, after_give_back, becomes_idle, keep_as_told, given_back}
+use Rattle.host_state.specs.Effects.{idle_len, one_if}
+use Rattle.host_state.specs.Laws.{IsSoundAndQuiet}
 use Rattle.bundle.specs.Lease.{HostShown, Leasing}
-use Rattle.host_rules.specs.Counts.{held_by}
+use Rattle.host_state.specs.Counts.{held_by}
 use Rattle.bundle.specs.Replies.{IsBack, GivesBack}
-use Rattle.host_rules.proofs.Soundness.{idle_as_returned}
-use Rattle.host_rules.proofs.Counts.{given_back_spends}
+use Rattle.host_state.proofs.Soundness.{idle_as_returned}
+use Rattle.host_state.proofs.Counts.{given_back_spends}
 use Rattle.cache.specs.Pools.{logs_of}
 use Rattle.cache.proofs.HostParts.{ChangesPart}
 use Rattle.cache.proofs.OneHost.{log_was, logs_changed, parts_changed}

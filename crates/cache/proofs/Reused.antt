@@ -23,8 +23,8 @@ use Rattle.host_state.specs.Idle.{stream_of}
 use Rattle.host_state.specs.Steps.{moment_at, add, picked, cause_of, is_full}
 use Rattle.host_state.specs.declared.closing.Closing.TheVariants.{TooOld}
 use Rattle.bundle.specs.declared.answers.Got.TheVariants.{Lease as GotLease}
-use Rattle.host_rules.specs.Calls.{Start, Reply, starts, waits_on, no_room, again, acquired, start_behind, start_on, start_as_told, start_in_place_of}
-use Rattle.host_rules.specs.Effects.{tidied}
+use Rattle.host_state.specs.Calls.{Start, Reply, starts, waits_on, no_room, again, acquired, start_behind, start_on, start_as_told, start_in_place_of}
+use Rattle.host_state.specs.Effects.{tidied}
 use Rattle.bundle.specs.Lease.{HostShown, Leasing, HasItsStream, KeepsStreams}
 use Rattle.bundle.specs.Replies.{IsGot}
 use Rattle.cache.specs.AllHosts.{AllHosts, log_at, has_room, with_room, without_oldest, closed_of, oldest_of_all}

@@ -15,11 +15,11 @@ use Rattle.conn_log.specs.declared.entry.Entry.{Entry}
 use Rattle.conn_log.specs.Fit.{oldest_stamp}
 use Rattle.conn_log.specs.Legal.{LimitAndFirst}
 use Rattle.bundle.specs.declared.did.Did.{Did}
-use Rattle.host_rules.specs.Calls.{Start, is_queued}
-use Rattle.host_rules.specs.Laws.{IsSoundAndQuiet}
+use Rattle.host_state.specs.Calls.{Start, is_queued}
+use Rattle.host_state.specs.Laws.{IsSoundAndQuiet}
 use Rattle.bundle.specs.Lease.{HostShown, StaysThere}
-use Rattle.host_rules.specs.Counts.{held_by}
-use Rattle.host_rules.specs.Orders.{IsMarked, order_after}
+use Rattle.host_state.specs.Counts.{held_by}
+use Rattle.host_state.specs.Orders.{IsMarked, order_after}
 use Rattle.bundle.specs.Passes.{Accounts, tells, withdraws, AccountsForStarts}
 use Rattle.cache.specs.AllHosts.{AllHosts}
 use Rattle.cache.specs.Oldest.{is_before, stamp_at}

@@ -18,10 +18,10 @@ use Rattle.conn_log.specs.Legal.{LimitAndFirst}
 use Rattle.conn_log.specs.Sound.{IsSound}
 use Rattle.conn_log.proofs.Soundness.{and_right}
 use Rattle.host_state.specs.Steps.{moment_at}
-use Rattle.host_rules.specs.Calls.{after_turn, is_queued, start_new, open_for}
-use Rattle.host_rules.specs.Effects.{OpensForHead}
-use Rattle.host_rules.specs.Laws.{IsSoundAndQuiet}
-use Rattle.host_rules.proofs.Counts.{turn_opens}
+use Rattle.host_state.specs.Calls.{after_turn, is_queued, start_new, open_for}
+use Rattle.host_state.specs.Effects.{OpensForHead}
+use Rattle.host_state.specs.Laws.{IsSoundAndQuiet}
+use Rattle.host_state.proofs.Counts.{turn_opens}
 use Rattle.cache.specs.AllHosts.{AllHosts, log_at, terms, has_room, total_waiting, without_oldest, after_turn_of, with_room, turn_of_first, is_any, may_turn, after_turns, served, IsLawful}
 use Rattle.cache.specs.Laws.{OnlyServed, AllOnlyServed, OthersOnlyServed}
 use Rattle.cache.proofs.Lawfulness.{log_changed, log_other}

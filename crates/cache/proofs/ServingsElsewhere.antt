@@ -11,9 +11,9 @@ use Rattle.conn_log.specs.declared.entry.Entry.{Entry}
 use Rattle.conn_log.specs.Connections.{held_number}
 use Rattle.conn_log.specs.Sound.{IsSound}
 use Rattle.host_state.specs.Steps.{moment_at}
-use Rattle.host_rules.specs.Calls.{becomes_idle, limit_refusal, is_busy}
-use Rattle.host_rules.specs.Effects.{asks_for_one}
-use Rattle.host_rules.proofs.Soundness.{closes_pruned}
+use Rattle.host_state.specs.Calls.{becomes_idle, limit_refusal, is_busy}
+use Rattle.host_state.specs.Effects.{asks_for_one}
+use Rattle.host_state.proofs.Soundness.{closes_pruned}
 use Rattle.cache.specs.AllHosts.{AllHosts, log_at, terms, has_room, without_oldest, served, IsLawful}
 use Rattle.cache.specs.Calls.{with_tidied, with_room_for, acquired, after_acquire, with_room_to_keep, given_back, after_giving_back, abandoned, after_abandoning, withdrawn, after_withdrawing, pruned_log, pruned, after_prune, limited, after_limit_of}
 use Rattle.cache.specs.Laws.{OnlyServed, AllOnlyServed, OthersOnlyServed}

@@ -10,12 +10,12 @@ use Rattle.conn_log.specs.declared.entry.Entry.{Entry}
 use Rattle.conn_log.specs.Connections.{held_number}
 use Rattle.conn_log.specs.Waiting.{waits}
 use Rattle.host_state.specs.Steps.{moment_at, add}
-use Rattle.host_rules.specs.Calls.{becomes_idle, after_give_back, after_abandon, close_granted, after_withdraw}
-use Rattle.host_rules.specs.Effects.{open_len, idle_len, SpendsOne, is_got, one_if}
-use Rattle.host_rules.specs.Laws.{IsSoundAndQuiet}
-use Rattle.host_rules.proofs.Soundness.{kept_withdraw}
-use Rattle.host_rules.proofs.Counts.{given_back_spends, abandon_spends, withdraw_spends, withdraw_leaves}
-use Rattle.host_rules.proofs.EndsOfUses.{got_is_spent}
+use Rattle.host_state.specs.Calls.{becomes_idle, after_give_back, after_abandon, close_granted, after_withdraw}
+use Rattle.host_state.specs.Effects.{open_len, idle_len, SpendsOne, is_got, one_if}
+use Rattle.host_state.specs.Laws.{IsSoundAndQuiet}
+use Rattle.host_state.proofs.Soundness.{kept_withdraw}
+use Rattle.host_state.proofs.Counts.{given_back_spends, abandon_spends, withdraw_spends, withdraw_leaves}
+use Rattle.host_state.proofs.EndsOfUses.{got_is_spent}
 use Rattle.cache.specs.AllHosts.{AllHosts, log_at, with_log, terms, kept, can_keep, without_oldest, marked, IsLawful, IsAtRest}
 use Rattle.cache.specs.Calls.{with_room_to_keep, given_back, after_giving_back, abandoned, after_abandoning, withdrawn, after_withdrawing}
 use Rattle.cache.proofs.Lawfulness.{lawful_marked}

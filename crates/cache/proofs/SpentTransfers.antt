@@ -18,10 +18,10 @@ use Rattle.conn_log.specs.Legal.{LimitAndFirst, ends_use, ending_cause}
 use Rattle.conn_log.specs.Sound.{IsSound}
 use Rattle.conn_log.proofs.Holdings.{unless_it_is, number_closed, number_returned}
 use Rattle.host_state.specs.Steps.{moment_at, add, next_number}
-use Rattle.host_rules.specs.Calls.{becomes_idle, start_new, open_for, open_for_head, unfit_cause, grant_to, settle, after_give_back, after_close, close_granted, after_withdraw}
-use Rattle.host_rules.proofs.Soundness.{held_want}
-use Rattle.host_rules.proofs.EndsOfUses.{holder_waits_not}
-use Rattle.host_rules.proofs.Transfers.{freed_ended}
+use Rattle.host_state.specs.Calls.{becomes_idle, start_new, open_for, open_for_head, unfit_cause, grant_to, settle, after_give_back, after_close, close_granted, after_withdraw}
+use Rattle.host_state.proofs.Soundness.{held_want}
+use Rattle.host_state.proofs.EndsOfUses.{holder_waits_not}
+use Rattle.host_state.proofs.Transfers.{freed_ended}
 use Rattle.cache.specs.AllHosts.{AllHosts, log_at, terms, served, IsLawful}
 use Rattle.cache.specs.Calls.{with_room_to_keep, after_giving_back, after_abandoning, after_withdrawing}
 use Rattle.cache.specs.Laws.{HasNothing, OnlyServed}

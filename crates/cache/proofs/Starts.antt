@@ -13,9 +13,9 @@ use Rattle.conn_log.specs.declared.entry.Cause.TheVariants.{TotalRoom}
 use Rattle.conn_log.specs.declared.entry.Entry.{Entry}
 use Rattle.conn_log.specs.Connections.{idle_connections}
 use Rattle.host_state.specs.Steps.{moment_at}
-use Rattle.host_rules.specs.Calls.{Reply, no_room, acquired as acquired_at, start_as_told, Acquired as AcquiredAt}
-use Rattle.host_rules.specs.Effects.{open_len, asks_for_one}
-use Rattle.host_rules.specs.Laws.{IsSoundAndQuiet}
+use Rattle.host_state.specs.Calls.{Reply, no_room, acquired as acquired_at, start_as_told, Acquired as AcquiredAt}
+use Rattle.host_state.specs.Effects.{open_len, asks_for_one}
+use Rattle.host_state.specs.Laws.{IsSoundAndQuiet}
 use Rattle.cache.specs.AllHosts.{AllHosts, log_at, with_log, terms, total, has_room, with_room, without_oldest, marked}
 use Rattle.cache.specs.Calls.{Acquired, acquired, started, told_of_total, with_tidied, with_room_for}
 use Rattle.cache.proofs.BudgetRequests.{tidy, asks, asked, unasked, tidied_before, tidied_moment, given_opens, full_opens_none, nothing_tidied, last_begins_as_told}

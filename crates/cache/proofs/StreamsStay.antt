@@ -11,7 +11,7 @@ use Rattle.conn_log.specs.Connections.{is_among, opened, opened_after, closes, i
 use Rattle.conn_log.specs.Legal.{LimitAndFirst}
 use Rattle.conn_log.specs.Sound.{IsSound}
 use Rattle.conn_log.proofs.Steps.{is_open_is, opened_not_closed}
-use Rattle.host_rules.specs.Calls.{GrowsBy}
+use Rattle.host_state.specs.Calls.{GrowsBy}
 use Rattle.bundle.specs.Lease.{HostShown, Leasing, KeepsItsStream, KeepsStreams, KeepsOthers}
 use Rattle.cache.specs.Pools.{StreamsStay, OtherStreamsStay}
 

@@ -7,12 +7,12 @@ use Rattle.budget.specs.Lobby.{Queue}
 use Rattle.budget.specs.Plain.{Plain, IsWithin, alive_in, kept_in}
 use Rattle.budget.specs.declared.permits.Held.{Held}
 use Rattle.conn_log.specs.declared.entry.Entry.{Entry}
-use Rattle.host_rules.specs.Effects.{open_len, idle_len}
+use Rattle.host_state.specs.Effects.{open_len, idle_len}
 use Rattle.conn_log.specs.declared.stamp.Stamp.{Stamp}
 use Rattle.conn_log.specs.Legal.{LimitAndFirst}
-use Rattle.host_rules.specs.Laws.{IsSoundAndQuiet}
+use Rattle.host_state.specs.Laws.{IsSoundAndQuiet}
 use Rattle.bundle.specs.Lease.{HostShown}
-use Rattle.host_rules.specs.Counts.{held_by}
+use Rattle.host_state.specs.Counts.{held_by}
 use Rattle.bundle.specs.Passes.{Accounts}
 use Rattle.cache.specs.AllHosts.{terms}
 use Rattle.cache.specs.Pools.{no_host, host_in, logs_of, AreKept}

@@ -14,7 +14,7 @@ use Rattle.conn_log.specs.declared.stamp.Stamp.{Stamp}
 use Rattle.conn_log.specs.Connections.{idle_connections}
 use Rattle.conn_log.specs.Fit.{is_idle_longer, first_by, oldest, oldest_stamp}
 use Rattle.bundle.specs.Lease.{HostShown}
-use Rattle.host_rules.specs.Counts.{held_by}
+use Rattle.host_state.specs.Counts.{held_by}
 use Rattle.bundle.specs.Passes.{Accounts}
 use Rattle.cache.specs.Oldest.{is_before, earliest, stamp_at, stamps_from}
 use Rattle.cache.specs.Pools.{PoolShown, no_host, host_in, logs_of, AreKept}

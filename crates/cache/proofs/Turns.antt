@@ -10,10 +10,10 @@ use Rattle.conn_log.specs.declared.entry.Cause.TheVariants.{TotalRoom}
 use Rattle.conn_log.specs.declared.entry.Entry.{Entry}
 use Rattle.conn_log.specs.Waiting.{waiting}
 use Rattle.conn_log.proofs.Soundness.{and_left, and_right}
-use Rattle.host_rules.specs.Calls.{is_anyone, after_turn, is_queued}
-use Rattle.host_rules.specs.Effects.{OpensForHead}
-use Rattle.host_rules.specs.Orders.{order_after_turn}
-use Rattle.host_rules.proofs.Counts.{turn_opens}
+use Rattle.host_state.specs.Calls.{is_anyone, after_turn, is_queued}
+use Rattle.host_state.specs.Effects.{OpensForHead}
+use Rattle.host_state.specs.Orders.{order_after_turn}
+use Rattle.host_state.proofs.Counts.{turn_opens}
 use Rattle.cache.specs.AllHosts.{AllHosts, log_at, terms, total, kept, has_room, waiting_len, total_waiting, after_turn_of, without_oldest, with_room, turn_of_first, is_any, may_turn, after_turns, served, IsLawful, IsServed, IsAtRest}
 use Rattle.cache.proofs.Lawfulness.{part_of, sum_moved, marks_turn, queue_is, lawful_changed}
 use Rattle.cache.proofs.Evictions.{LosesOldest, oldest_lost}

@@ -5,7 +5,7 @@ use Rattle.std.proofs.lemmas.Bool.Decides.{nat_tests}
 use Rattle.persistence.specs.declared.facts.Facts.{Facts}
 use Rattle.budget.specs.Limits.{Bounds}
 use Rattle.conn_log.specs.declared.entry.Cause.TheVariants.{CacheFull}
-use Rattle.host_rules.specs.Calls.{becomes_idle, after_give_back}
+use Rattle.host_state.specs.Calls.{becomes_idle, after_give_back}
 use Rattle.conn_log.specs.Connections.{is_open}
 use Rattle.bundle.specs.Lease.{Leasing, is_held_lease}
 use Rattle.cache.specs.AllHosts.{AllHosts, log_at, with_log, terms, kept, can_keep, without_oldest, marked}

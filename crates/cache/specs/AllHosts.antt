@@ -13,10 +13,10 @@ use Rattle.conn_log.specs.declared.entry.Entry.{Entry}
 use Rattle.conn_log.specs.Waiting.{waiting}
 use Rattle.conn_log.specs.Legal.{LimitAndFirst}
 use Rattle.host_state.specs.Steps.{moment_at, add}
-use Rattle.host_rules.specs.Calls.{after_turn, is_queued}
-use Rattle.host_rules.specs.Effects.{open_len, idle_len}
-use Rattle.host_rules.specs.Laws.{IsSoundAndQuiet}
-use Rattle.host_rules.specs.Orders.{order_after_turn}
+use Rattle.host_state.specs.Calls.{after_turn, is_queued}
+use Rattle.host_state.specs.Effects.{open_len, idle_len}
+use Rattle.host_state.specs.Laws.{IsSoundAndQuiet}
+use Rattle.host_state.specs.Orders.{order_after_turn}
 use Rattle.cache.specs.Oldest.{earliest, stamps_from}
 
 pub record AllHosts : Type 0 where

@@ -10,8 +10,8 @@ use Rattle.conn_log.specs.declared.entry.Cause.TheVariants.{TotalRoom, CacheFull
 use Rattle.conn_log.specs.declared.entry.Entry.{Entry}
 use Rattle.host_state.specs.Steps.{moment_at, picked, without_picked}
 use Rattle.host_state.specs.declared.closing.Closing.TheVariants.{Pruned}
-use Rattle.host_rules.specs.Calls.{Reply, acquired as acquired_at, becomes_idle, after_give_back, after_abandon, after_withdraw, after_limit, kept_limit, starts_due, is_queued}
-use Rattle.host_rules.specs.Effects.{tidied, asks_for_one}
+use Rattle.host_state.specs.Calls.{Reply, acquired as acquired_at, becomes_idle, after_give_back, after_abandon, after_withdraw, after_limit, kept_limit, starts_due, is_queued}
+use Rattle.host_state.specs.Effects.{tidied, asks_for_one}
 use Rattle.cache.specs.AllHosts.{AllHosts, log_at, with_log, terms, total, has_room, can_keep, without_oldest, marked, served}
 
 -- all hosts after an acquire, and what it comes to: the start or the wait

@@ -8,8 +8,8 @@ use Rattle.conn_log.specs.declared.entry.Entry.{Entry}
 use Rattle.conn_log.specs.Connections.{held_number, idle_connections}
 use Rattle.conn_log.specs.Waiting.{waiting, waits}
 use Rattle.conn_log.specs.Legal.{limit_in_force, IsAnyone}
-use Rattle.host_rules.specs.Calls.{Start, Wait, Reply, starts, waits_on, GrowsBy, is_busy, limit_refusal}
-use Rattle.host_rules.specs.Effects.{open_len}
+use Rattle.host_state.specs.Calls.{Start, Wait, Reply, starts, waits_on, GrowsBy, is_busy, limit_refusal}
+use Rattle.host_state.specs.Effects.{open_len}
 use Rattle.cache.specs.AllHosts.{AllHosts, log_at, terms, total, kept, served, IsLawful, IsAtRest}
 use Rattle.cache.specs.Calls.{after_acquire, reply_of, after_giving_back, after_abandoning, after_withdrawing, after_prune, after_limit_of}
 

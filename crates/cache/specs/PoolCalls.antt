@@ -7,8 +7,8 @@ use Rattle.conn_log.specs.declared.entry.Entry.{Entry}
 use Rattle.conn_log.specs.Connections.{is_open}
 use Rattle.budget.specs.declared.refusal.Refusal.{Refusal}
 use Rattle.budget.specs.declared.refusal.Refusal.TheVariants.{Memory, BadSite}
-use Rattle.host_rules.specs.Bookings.{without_booked}
-use Rattle.host_rules.specs.Calls.{Reply, GrowsBy, refusal, limit_refusal}
+use Rattle.host_state.specs.Bookings.{without_booked}
+use Rattle.host_state.specs.Calls.{Reply, GrowsBy, refusal, limit_refusal}
 use Rattle.bundle.specs.Seats.{Tables}
 use Rattle.bundle.specs.Lease.{HostShown, StaysThere, IsPartOf, cut_refusal, Leasing, Ticketed, WasGranted, HasItsStream, KeepsItsStream, GetsLease, GetsTicket, Spends, is_held_lease, is_valid_ticket, is_unclaimed}
 use Rattle.bundle.specs.declared.answers.Acquired.{Acquired}

@@ -10,10 +10,10 @@ use Rattle.conn_log.specs.declared.stamp.Stamp.{Stamp}
 use Rattle.conn_log.specs.Connections.{is_open}
 use Rattle.conn_log.specs.Fit.{oldest_stamp}
 use Rattle.host_state.specs.Idle.{stream_of}
-use Rattle.host_rules.specs.Calls.{Reply, starts, waits_on, GrowsBy, is_queued}
-use Rattle.host_rules.specs.Laws.{IsSoundAndQuiet}
+use Rattle.host_state.specs.Calls.{Reply, starts, waits_on, GrowsBy, is_queued}
+use Rattle.host_state.specs.Laws.{IsSoundAndQuiet}
 use Rattle.bundle.specs.Lease.{HostShown, IsNewHost, Leasing, Ticketed, StaysThere, KeepsAll}
-use Rattle.host_rules.specs.Counts.{held_by}
+use Rattle.host_state.specs.Counts.{held_by}
 pub use Rattle.bundle.specs.Around.{StaysHost}
 use Rattle.bundle.specs.Passes.{Accounts}
 use Rattle.bundle.specs.Seats.{gone}

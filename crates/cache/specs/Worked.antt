@@ -8,8 +8,8 @@ use Rattle.conn_log.specs.declared.entry.Want.{Want}
 use Rattle.conn_log.specs.declared.entry.Cause.TheVariants.{HostRoom, TotalRoom, CacheFull, Dropped, Withdrawn, Pruned}
 use Rattle.conn_log.specs.declared.entry.Entry.{Entry}
 use Rattle.conn_log.specs.Worked.{opened◌for◌at◌, leased◌to◌at◌, returned◌with◌at◌, closed◌for◌at◌, waits◌at◌, limit◌at◌, get, get_of_lane_1, keep, limit_raised}
-use Rattle.host_rules.specs.Calls.{starts, is_queued, refusal, limit_refusal, last_start}
-use Rattle.host_rules.specs.Counts.{snapshot_of}
+use Rattle.host_state.specs.Calls.{starts, is_queued, refusal, limit_refusal, last_start}
+use Rattle.host_state.specs.Counts.{snapshot_of}
 use Rattle.cache.specs.AllHosts.{AllHosts, log_at, terms}
 use Rattle.cache.specs.Calls.{after_acquire, reply_of, after_giving_back, after_abandoning, after_withdrawing, after_prune, prune_count, after_limit_of}
 

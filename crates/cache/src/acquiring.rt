@@ -1,7 +1,7 @@
 //! How a transfer acquires a connection.
 
 ghost use Rattle.std.specs.Prelude.{◌≡◌, ◌<◌, length, IfOk, IfErr, IfSome};
-ghost use Rattle.host_rules.specs.Calls.{refusal};
+ghost use Rattle.host_state.specs.Calls.{refusal};
 ghost use Rattle.bundle.specs.Lease.{IsBookedHere};
 ghost use Rattle.cache.specs.AllHosts.{total, with_room};
 ghost use Rattle.cache.specs.Calls.{acquired, started};

@@ -3,8 +3,8 @@
 ghost use Rattle.std.specs.Prelude.{◌≡◌, ◌<◌, ◌≤◌, [], length, replicate, vec_capacity};
 ghost use Rattle.std.specs.Prelude.{IfOk, IfErr, IfSome, IfNone, OnOk};
 ghost use Rattle.budget.specs.Accounts.{vacant};
-ghost use Rattle.host_rules.specs.Calls.{is_queued};
-ghost use Rattle.host_rules.specs.Counts.{snapshot_of};
+ghost use Rattle.host_state.specs.Calls.{is_queued};
+ghost use Rattle.host_state.specs.Counts.{snapshot_of};
 ghost use Rattle.bundle.specs.Lease.{HasItsStreams, UnclaimedAreStarts};
 ghost use Rattle.bundle.specs.Seats.{gone};
 ghost use Rattle.cache.specs.AllHosts.{IsLawful, oldest_of_all};

@@ -1,7 +1,7 @@
 //! How idle connections are pruned, and how a host's limit is changed.
 
 ghost use Rattle.std.specs.Prelude.{◌≡◌, ◌<◌, length, IfSome, IfErr, OnOk};
-ghost use Rattle.host_rules.specs.Calls.{limit_refusal};
+ghost use Rattle.host_state.specs.Calls.{limit_refusal};
 ghost use Rattle.cache.specs.AllHosts.{with_log, log_at};
 ghost use Rattle.cache.specs.Calls.{pruned, pruned_log, pruned_at, prune_count, limited};
 ghost use Rattle.cache.specs.Pools.{host_at, all_hosts};

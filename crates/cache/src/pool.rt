@@ -2,8 +2,8 @@
 
 ghost use Rattle.std.specs.Prelude.{◌≡◌, ◌<◌, ◌≤◌, length, nat_lt, if◌then◌else◌};
 ghost use Rattle.std.specs.Prelude.{IsSome, IfOk, IfErr, IfSome, IfNone, OnOk, OnErr};
-ghost use Rattle.host_rules.specs.Calls.{is_queued};
-ghost use Rattle.host_rules.specs.Counts.{snapshot_of};
+ghost use Rattle.host_state.specs.Calls.{is_queued};
+ghost use Rattle.host_state.specs.Counts.{snapshot_of};
 ghost use Rattle.bundle.specs.Seats.{gone};
 ghost use Rattle.bundle.specs.Lease.{HasItsStreams, UnclaimedAreStarts};
 ghost use Rattle.cache_trait.specs.CacheCalls.{GivesBy, ClaimsBy};

@@ -2,7 +2,7 @@
 
 ghost use Rattle.std.specs.Prelude.{◌≡◌, ◌+◌, ◌<◌, ◌||◌, true, false, nat_lt, length, is_some};
 ghost use Rattle.std.specs.Prelude.{slice_get, Some};
-ghost use Rattle.host_rules.specs.Calls.{makes_room_for_others};
+ghost use Rattle.host_state.specs.Calls.{makes_room_for_others};
 ghost use Rattle.cache.specs.AllHosts.{without_oldest, oldest_of_all, has_room, with_room};
 ghost use Rattle.cache.specs.AllHosts.{may_turn, after_turn_of, turn_of_first, total, kept};
 ghost use Rattle.cache.specs.AllHosts.{served, total_waiting, IsServed};

@@ -4,7 +4,7 @@ ghost use Rattle.std.specs.Prelude.{◌≡◌, ◌<◌, true, [], length};
 ghost use Rattle.std.specs.Prelude.{IsSome, IfSome, IfNone, IfOk, IfErr, OnOk};
 ghost use Rattle.persistence.specs.declared.facts.Facts.{Facts};
 ghost use Rattle.conn_log.specs.Connections.{is_open};
-ghost use Rattle.host_rules.specs.Calls.{becomes_idle, after_give_back};
+ghost use Rattle.host_state.specs.Calls.{becomes_idle, after_give_back};
 ghost use Rattle.bundle.specs.Lease.{is_held_lease};
 ghost use Rattle.cache.specs.AllHosts.{log_at, with_log, terms, kept, can_keep, marked};
 ghost use Rattle.cache.specs.Calls.{given_back, abandoned, withdrawn};

@@ -5,8 +5,8 @@ use crate::checks::check_eq;
 use crate::desk::Desk;
 use crate::drawn::{Draws, do_one};
 use cache::Pool;
-use cache_report::count_part;
 use conn_log::{Counts, Entry};
+use load_report::count_part;
 use std::process::Abort;
 
 const HOSTS: u32 = 8;

@@ -4,7 +4,7 @@ ghost use Rattle.std.specs.Prelude.{◌≡◌};
 
 use crate::checks::check_eq;
 use budget::Limits;
-use cache_report::report;
+use load_report::report;
 use shared_cache::{Desk, Names, Plan, SharedCache, discard_all};
 use std::alloc::AllocGlobal;
 use std::marker::Brand;

@@ -4,7 +4,7 @@ ghost use Rattle.std.specs.Prelude.{◌≡◌, ◌<◌, length, IsSome};
 ghost use Rattle.budget.specs.Accounts.{IsEnrolledAt};
 ghost use Rattle.budget.specs.Plain.{held_at_host};
 ghost use Rattle.bundle.specs.Around.{HoldsPart};
-ghost use Rattle.host_rules.specs.Counts.{held_by};
+ghost use Rattle.host_state.specs.Counts.{held_by};
 
 use crate::checks::check_eq;
 use budget::{Limits, Pass, Permits, PlainBudget, Refusal, Tally};

@@ -3,13 +3,13 @@
 use crate::checks::check_eq;
 use budget::Lobby;
 use cache::oldest_of;
-use cache_report::count_part;
 use conn_key::PlaceTable;
 use conn_log::{Counts, Entry, Event, Log, Stamp, Want};
 use drawing::{Drawing, Point, Size, Style};
 use driver::ListedJobs;
 use host_state::State;
 use load_figures::Histogram;
+use load_report::count_part;
 
 #[test]
 fn a_new_log_has_used_no_number(rt: HostRuntime) {

@@ -2,8 +2,8 @@
 use Rattle.std.proofs.Common.{◌≡◌, ◌∙◌, ◌+◌, ◌^◌, ◌<◌, ◌≤◌, ℕ, suc, Bool, true, false, List, [], ◌∷◌, ◌++◌, count_by, length, cond, sum_by, ap, refl, sym, arith}
 use Rattle.std.proofs.lemmas.List.{length-append}
 use Rattle.std.proofs.lemmas.List.Sums.{count_by-le-length, sum_by-append, sum_by-cons}
-use Rattle.cache_report.specs.Report.{body_len, is_bad, is_retried, is_reused, sums_of}
-use Rattle.cache_report.specs.declared.sums.JobSums.{JobSums}
+use Rattle.load_report.specs.Accounts.{body_len, is_bad, is_retried, is_reused, sums_of}
+use Rattle.load_report.specs.declared.account_sums.JobSums.{JobSums}
 use Rattle.exchange.specs.declared.done.Answer.{Answer}
 use Rattle.exchange.specs.declared.done.Done.{Done}
 use Rattle.exchange.specs.declared.done.Done.TheVariants.{Good, Bad}

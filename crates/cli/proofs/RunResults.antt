@@ -3,7 +3,7 @@ use Rattle.std.proofs.Common.{◌≡◌, ◌∙◌, ◌+◌, ◌-◌, ◌*◌, �
 use Rattle.std.proofs.lemmas.Bool.Decides.{nat_tests}
 use Rattle.std.proofs.lemmas.List.{get_or-map, length-map, map-append, reverse-append}
 use Rattle.std.proofs.lemmas.List.Elements.{All-head, All-tail}
-use Rattle.cache_report.specs.Report.{lines_text, report_text, sums_of}
+use Rattle.load_report.specs.Accounts.{lines_text, report_text, sums_of}
 use Rattle.driver.specs.ManyWork.{back_of, begun_of, told_of}
 use Rattle.exchange.specs.Worlds.{World}
 use Rattle.exchange.specs.declared.done.Done.{Done}

@@ -5,8 +5,8 @@ use Rattle.std.specs.Option.{option_map}
 use Rattle.mio.specs.declared.net.stream.TcpStream.{TcpStream as MioStream}
 use Rattle.clap.specs.Words.{Text}
 use Rattle.budget.specs.Limits.{bounds_of}
-use Rattle.cache_report.specs.Report.{lines_text, report_text}
-use Rattle.cache_report.specs.declared.sums.JobSums.{JobSums}
+use Rattle.load_report.specs.Accounts.{lines_text, report_text}
+use Rattle.load_report.specs.declared.account_sums.JobSums.{JobSums}
 use Rattle.driver.specs.ManyWork.{told_of}
 use Rattle.exchange.specs.Worlds.{World, world_of}
 use Rattle.exchange.specs.declared.done.Done.{Done}

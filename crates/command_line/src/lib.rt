@@ -39,7 +39,6 @@ pub use load_urls::job_of;
 pub use memory::{ArgsAlloc, CountedArgsAlloc};
 pub use refusal::Refusal;
 pub use request::{ErrorClass, Request};
-pub use resolve::system_addresses;
 pub use script_words::ScriptWords;
 pub use system_words::given_words;
 pub use words::Words;

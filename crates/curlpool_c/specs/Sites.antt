@@ -4,8 +4,8 @@ use Rattle.std.specs.Fmt.{decimal}
 use Rattle.conn_log.specs.Counts.{counts}
 use Rattle.conn_log.specs.declared.counts.Counts.{Counts}
 use Rattle.budget.specs.declared.refusal.Refusal.{Refusal}
-use Rattle.host_rules.specs.Calls.{is_queued}
-use Rattle.host_rules.specs.Counts.{snapshot_of}
+use Rattle.host_state.specs.Calls.{is_queued}
+use Rattle.host_state.specs.Counts.{snapshot_of}
 use Rattle.cache.specs.Calls.{after_limit_of, after_prune, prune_count}
 use Rattle.cache.specs.Pools.{all_hosts, host_at}
 use Rattle.cache.specs.PoolCalls.{IsCallAtAll, IsReason, limit_refusal_at}

@@ -6,7 +6,7 @@ use Rattle.persistence.specs.declared.facts.Framing.TheVariants.{NoBody, Counted
 use Rattle.persistence.specs.declared.facts.Version.{Version}
 use Rattle.persistence.specs.declared.facts.Version.TheVariants.{V10, V11}
 use Rattle.conn_log.specs.declared.counts.Counts.{Counts}
-use Rattle.host_rules.specs.declared.snapshot.Snapshot.{Snapshot}
+use Rattle.host_state.specs.declared.snapshot.Snapshot.{Snapshot}
 use Rattle.held_pool.specs.declared.response.Response.{Response}
 use Rattle.curlpool_c.specs.declared.structs.CFacts.{CFacts}
 use Rattle.curlpool_c.specs.declared.structs.CResponse.{CResponse}

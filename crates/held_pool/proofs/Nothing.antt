@@ -15,8 +15,8 @@ use Rattle.conn_log.specs.Waiting.{waiting, waits}
 use Rattle.conn_log.proofs.Soundness.{holds_is}
 use Rattle.host_state.specs.Queue.{waiting_want}
 use Rattle.host_state.specs.Steps.{is_exhausted}
-use Rattle.host_rules.specs.Calls.{refusal, is_busy}
-use Rattle.host_rules.specs.Grants.{granted_want}
+use Rattle.host_state.specs.Calls.{refusal, is_busy}
+use Rattle.host_state.specs.Grants.{granted_want}
 use Rattle.bundle.specs.Lease.{HostShown, is_unclaimed}
 use Rattle.cache.specs.AllHosts.{terms, IsAtRest}
 use Rattle.cache.specs.Pools.{PoolShown, host_at, all_hosts, AreInPlace}

@@ -2,8 +2,8 @@
 
 ghost use Rattle.std.specs.Prelude.{◌≡◌, ◌⊎◌, [], None, Some, IfErr, IfOk, IfNone, IfSome, OnErr};
 ghost use Rattle.std.specs.Prelude.{nat_lt, if◌then◌else◌, OnOk, ◌<◌, length, ◌≤◌, true, false};
-ghost use Rattle.host_rules.specs.Calls.{is_queued};
-ghost use Rattle.host_rules.specs.Counts.{snapshot_of};
+ghost use Rattle.host_state.specs.Calls.{is_queued};
+ghost use Rattle.host_state.specs.Counts.{snapshot_of};
 ghost use Rattle.cache.specs.Calls.{after_limit_of, after_prune, prune_count};
 ghost use Rattle.cache_trait.specs.CacheCalls.{AllDone};
 ghost use Rattle.cache.specs.Pools.{IsNewPool, all_hosts, host_at};

@@ -5,11 +5,15 @@
 mod closing;
 mod held;
 mod idle;
+pub mod laws;
 mod queue;
 mod returned;
+mod snapshot;
 mod state;
+pub mod worked;
 
 pub use closing::Closing;
 pub use held::Held;
 pub use returned::Returned;
+pub use snapshot::Snapshot;
 pub use state::State;

@@ -2,7 +2,7 @@
 use Rattle.std.proofs.Common.{◌≡◌, ℕ, ◌+◌, ◌<◌, List, [], ◌∷◌, ◌++◌, length, take, get_or, sym, ap, subst, ◌∙◌}
 use Rattle.std.proofs.lemmas.List.{take_more}
 use Rattle.load_figures.specs.declared.job_counts.JobCounts.{JobCounts}
-use Rattle.load_report.specs.declared.report.JobReport.{JobReport}
+use Rattle.load_report.specs.declared.report_numbers.JobReport.{JobReport}
 use Rattle.load_report.specs.Reports.{AreReportsOf, IsReportOf}
 
 -- the report of one host more

@@ -2,3 +2,7 @@
 pub mod HostReports
 -- what is reported of intervals
 pub mod Lines
+-- what a hole of eight places writes
+mod Holes
+-- the lines of hosts, one after the other
+mod AccountLines

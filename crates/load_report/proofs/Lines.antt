@@ -2,7 +2,7 @@
 use Rattle.std.proofs.Common.{◌≡◌, ℕ, zero, suc, ◌+◌, ◌<◌, ◌≤◌, List, [], ◌∷◌, ◌++◌, length, take, drop, get_or, refl, sym, ap, subst, ◌∙◌, arith}
 use Rattle.std.proofs.lemmas.List.{take_more}
 use Rattle.std.proofs.lemmas.List.Elements.{All-cons, All-head, All-nil, All-tail}
-use Rattle.load_report.specs.declared.report.IntervalReport.{IntervalReport}
+use Rattle.load_report.specs.declared.report_numbers.IntervalReport.{IntervalReport}
 use Rattle.load_figures.specs.Intervals.{IntervalCounts}
 use Rattle.load_report.specs.Reports.{AreIdle, AreIntervalReports, IsIntervalReport}
 

@@ -3,12 +3,12 @@ use Rattle.std.specs.Prelude.{◌≡◌, ℕ, suc, ◌+◌, ◌*◌, ◌/◌, �
 use Rattle.load_figures.specs.Percentiles.{IsPercentileAt}
 use Rattle.load_figures.specs.Tally.{Tally, values_in}
 use Rattle.load_figures.specs.declared.job_counts.JobCounts.{JobCounts}
-use Rattle.load_report.specs.declared.report.Connections.{Connections}
-use Rattle.load_report.specs.declared.report.HostRun.{HostRun}
-use Rattle.load_report.specs.declared.report.JobReport.{JobReport}
-use Rattle.load_report.specs.declared.report.Latencies.{Latencies}
-use Rattle.load_report.specs.declared.report.IntervalLatency.{IntervalLatency}
-use Rattle.load_report.specs.declared.report.IntervalReport.{IntervalReport}
+use Rattle.load_report.specs.declared.report_numbers.Connections.{Connections}
+use Rattle.load_report.specs.declared.report_numbers.HostRun.{HostRun}
+use Rattle.load_report.specs.declared.report_numbers.JobReport.{JobReport}
+use Rattle.load_report.specs.declared.report_numbers.Latencies.{Latencies}
+use Rattle.load_report.specs.declared.report_numbers.IntervalLatency.{IntervalLatency}
+use Rattle.load_report.specs.declared.report_numbers.IntervalReport.{IntervalReport}
 use Rattle.load_figures.specs.Counts.{capped}
 use Rattle.load_figures.specs.Intervals.{IntervalCounts, IntervalLine, IsLatencyAt}
 

@@ -2,7 +2,7 @@
 
 ghost use Rattle.std.specs.Prelude.{◌↔◌, ◌*◌, ◌<◌, IsTrue};
 
-use crate::report::LoadReport;
+use crate::report_numbers::LoadReport;
 
 /// Whether more than so many hundredths of a percent of the jobs done failed.
 pub fn fails_above(report: &LoadReport, hundredths: u32) -> bool

@@ -1,6 +1,6 @@
 //! A load's report as JSON.
 
-use crate::report::{
+use crate::report_numbers::{
     Bucket, Connections, HostRun, IntervalReport, JobReport, Latencies, LoadReport, LoadRun,
     OptionValue, SaidOption,
 };

@@ -5,7 +5,7 @@ use crate::picture_counts::Counts;
 use crate::picture_latencies::draw_latencies;
 use crate::picture_rates::draw_rates;
 use crate::plot::{HEIGHT, LEFT, WIDTH};
-use crate::report::LoadReport;
+use crate::report_numbers::LoadReport;
 use crate::style::STYLE;
 use crate::time::Time;
 use drawing::{Anchor, Drawing, Place, Point, Size};

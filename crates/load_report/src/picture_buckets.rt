@@ -2,7 +2,7 @@
 
 use crate::log_scale::{DECADES, LogScale};
 use crate::plot::{HEIGHT, LEFT, WIDTH, draw_frame, draw_level, point, share};
-use crate::report::{Bucket, Latencies, LoadReport};
+use crate::report_numbers::{Bucket, Latencies, LoadReport};
 use crate::time::Time;
 use drawing::{Anchor, Drawing, Place};
 use std::alloc::{AllocError, Global};

@@ -1,7 +1,7 @@
 //! The table of counts.
 
 use crate::plot::LEFT;
-use crate::report::LoadReport;
+use crate::report_numbers::LoadReport;
 use drawing::{Anchor, Drawing, Point};
 use load_figures::{FAULT_NAMES, STATUS_NAMES};
 use std::alloc::{AllocError, Global};

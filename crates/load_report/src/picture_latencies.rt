@@ -3,7 +3,7 @@
 use crate::log_scale::{DECADES, LogScale};
 use crate::picture_rates::shown_us;
 use crate::plot::{HEIGHT, begin_of, draw_frame, draw_level, draw_moments, point};
-use crate::report::{IntervalLatency, LoadReport};
+use crate::report_numbers::{IntervalLatency, LoadReport};
 use crate::time::Time;
 use drawing::Drawing;
 use std::alloc::AllocError;

@@ -1,7 +1,7 @@
 //! Requests a second over time.
 
 use crate::plot::{HEIGHT, LEFT, begin_of, draw_frame, draw_level, draw_moments, share};
-use crate::report::{IntervalReport, LoadReport};
+use crate::report_numbers::{IntervalReport, LoadReport};
 use crate::time::Time;
 use drawing::{Drawing, Place};
 use std::alloc::{AllocError, Global};

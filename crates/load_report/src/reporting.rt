@@ -7,7 +7,7 @@ ghost use Rattle.load_report.specs.Reports.{AreIdle, AreIntervalLatencies, AreLa
 ghost use Rattle.load_report.specs.Reports.{IsIntervalReport, IsReportOf, ReportsLine};
 
 use crate::rates::per_second;
-use crate::report::{
+use crate::report_numbers::{
     Bucket, Connections, HostRun, IntervalLatency, IntervalReport, JobReport, Latencies,
     LoadReport, LoadRun,
 };

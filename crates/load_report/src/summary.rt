@@ -1,7 +1,7 @@
 //! The summary of a load as a text.
 
 use crate::rates::per_second;
-use crate::report::{Build, Latencies, LoadReport};
+use crate::report_numbers::{Build, Latencies, LoadReport};
 use load_figures::{FAULT_NAMES, STATUS_NAMES};
 use std::fmt;
 

@@ -8,11 +8,11 @@ use Rattle.budget.specs.Limits.{Bounds}
 use Rattle.budget.specs.Permits.{held}
 use Rattle.budget.specs.Plain.{Plain, held_at_host, nothing_held, KeepsOtherHosts}
 use Rattle.budget.specs.Lobby.{Queue}
-use Rattle.host_rules.specs.Calls.{is_queued}
+use Rattle.host_state.specs.Calls.{is_queued}
 use Rattle.bundle.specs.Lease.{HostShown, IsNewHost, StaysThere}
-use Rattle.host_rules.specs.Counts.{held_by}
+use Rattle.host_state.specs.Counts.{held_by}
 use Rattle.bundle.specs.Seats.{Tables}
-use Rattle.host_rules.specs.Orders.{Lists, IsMarked}
+use Rattle.host_state.specs.Orders.{Lists, IsMarked}
 use Rattle.bundle.specs.Lobbies.{IsServed}
 use Rattle.bundle.specs.Passes.{Accounts}
 use Rattle.bundle.specs.declared.answers.Served.{Served}

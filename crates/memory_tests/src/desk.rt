@@ -49,9 +49,9 @@ impl Model for Desk {
     ghost use Rattle.budget.specs.Accounts.{IsEnrolledAt};
     ghost use Rattle.budget.specs.Plain.{held_at_host};
     ghost use Rattle.bundle.specs.Seats.{Tables};
-    ghost use Rattle.host_rules.specs.Calls.{is_queued};
-    ghost use Rattle.host_rules.specs.Counts.{held_by};
-    ghost use Rattle.host_rules.specs.Orders.{Lists};
+    ghost use Rattle.host_state.specs.Calls.{is_queued};
+    ghost use Rattle.host_state.specs.Counts.{held_by};
+    ghost use Rattle.host_state.specs.Orders.{Lists};
 
     ghost Value = { Tables };
 

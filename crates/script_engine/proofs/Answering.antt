@@ -4,9 +4,9 @@ use Rattle.budget.specs.Limits.{Bounds}
 use Rattle.budget.specs.declared.refusal.Refusal.{Refusal}
 use Rattle.conn_log.specs.declared.entry.Want.{Want}
 use Rattle.conn_log.specs.Connections.{is_among, held_number}
-use Rattle.host_rules.specs.declared.snapshot.Snapshot.{Snapshot}
-use Rattle.host_rules.specs.Calls.{refusal, limit_refusal, is_queued, Reply, starts, waits_on, Start, Wait}
-use Rattle.host_rules.specs.Counts.{snapshot_of}
+use Rattle.host_state.specs.declared.snapshot.Snapshot.{Snapshot}
+use Rattle.host_state.specs.Calls.{refusal, limit_refusal, is_queued, Reply, starts, waits_on, Start, Wait}
+use Rattle.host_state.specs.Counts.{snapshot_of}
 use Rattle.cache.specs.AllHosts.{AllHosts, log_at, terms}
 use Rattle.cache.specs.Calls.{after_acquire, reply_of, after_giving_back, after_abandoning, after_limit_of}
 use Rattle.cache.specs.Laws.{AnswersWant}

@@ -12,7 +12,7 @@ use Rattle.conn_log.specs.declared.entry.Event.TheVariants.{Opened, Leased, Retu
 use Rattle.conn_log.specs.declared.entry.Cause.{Cause}
 use Rattle.conn_log.specs.declared.entry.Cause.TheVariants.{NotPersistent, Cut, Forbidden, TooOld, HostRoom, TotalRoom, CacheFull, Dropped, Withdrawn, Pruned}
 use Rattle.conn_log.specs.declared.entry.Entry.{Entry}
-use Rattle.host_rules.specs.Calls.{GrowsBy}
+use Rattle.host_state.specs.Calls.{GrowsBy}
 use Rattle.cache.specs.AllHosts.{AllHosts, log_at}
 use Rattle.cache.specs.Laws.{Grow}
 use Rattle.script_text.specs.Printing.{cause_word, event_text, entry_line, returned_by, newest_lines, lines_since, claimed_line, still_line, look_line, refused, upkeep_line, too_many_leased_line, yes_or_no}

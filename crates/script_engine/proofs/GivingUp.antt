@@ -8,7 +8,7 @@ use Rattle.budget.specs.declared.refusal.Refusal.{Refusal}
 use Rattle.conn_log.specs.declared.entry.Want.{Want}
 use Rattle.conn_log.specs.Connections.{is_among, held_number}
 use Rattle.conn_log.specs.Sound.{IsSound}
-use Rattle.host_rules.specs.Calls.{refusal, Reply, Start, starts, Wait, waits_on}
+use Rattle.host_state.specs.Calls.{refusal, Reply, Start, starts, Wait, waits_on}
 use Rattle.bundle.specs.Lease.{HostShown, Leasing, Ticketed, is_unclaimed, lease_number, ticket_want, is_valid_ticket, GetsLease, GetsTicket, WasGranted}
 use Rattle.cache.specs.AllHosts.{AllHosts, log_at, terms, IsAtRest}
 use Rattle.cache.specs.Calls.{after_acquire, reply_of, after_abandoning, after_withdrawing}

@@ -21,7 +21,7 @@ use Rattle.conn_log.specs.Fit.{is_fit, newest_fit, oldest}
 use Rattle.host_state.specs.declared.closing.Closing.{Closing}
 use Rattle.host_state.specs.declared.closing.Closing.TheVariants.{TooOld, Pruned, Above}
 use Rattle.host_state.specs.Steps.{add, moment_at, close_each, cause_of, picked, without_picked, is_full}
-use Rattle.host_rules.specs.Calls.{acquired, start_new, start_in_place_of, start_in_place, start_as_told, start_on, start_behind, open_for, open_for_head, open_for_first, unfit_cause, grant_to, settle, returned, after_give_back, after_close, after_abandon, close_granted, after_withdraw, after_turn, after_limit, GrowsBy}
+use Rattle.host_state.specs.Calls.{acquired, start_new, start_in_place_of, start_in_place, start_as_told, start_on, start_behind, open_for, open_for_head, open_for_first, unfit_cause, grant_to, settle, returned, after_give_back, after_close, after_abandon, close_granted, after_withdraw, after_turn, after_limit, GrowsBy}
 use Rattle.script_text.specs.Printing.{entry_line, event_text, returned_by, newest_lines, lines_since}
 use Rattle.script_engine.specs.Telling.{SaysAll, IsReturnedBy, GrowsAfter}
 

@@ -16,10 +16,10 @@ use Rattle.conn_log.specs.declared.entry.Entry.{Entry}
 use Rattle.conn_log.specs.Connections.{holder, held_number}
 use Rattle.host_state.specs.Steps.{moment_at}
 use Rattle.host_state.specs.declared.closing.Closing.TheVariants.{TooOld}
-use Rattle.host_rules.specs.Calls.{becomes_idle, kept_limit, starts_due, is_queued, GrowsBy}
-use Rattle.host_rules.specs.Effects.{asks_for_one}
+use Rattle.host_state.specs.Calls.{becomes_idle, kept_limit, starts_due, is_queued, GrowsBy}
+use Rattle.host_state.specs.Effects.{asks_for_one}
 use Rattle.bundle.specs.Lease.{HostShown}
-use Rattle.host_rules.proofs.Transfers.{held_here}
+use Rattle.host_state.proofs.Transfers.{held_here}
 use Rattle.cache.specs.AllHosts.{AllHosts, log_at, terms, total, has_room, can_keep, total_waiting, oldest_of_all, closed_of, without_oldest, after_turn_of, with_room, turn_of_first, may_turn, after_turns, served, IsLawful}
 use Rattle.cache.specs.Calls.{with_tidied, with_room_for, told_of_total, acquired, after_acquire, with_room_to_keep, given_back, after_giving_back, abandoned, after_abandoning, withdrawn, after_withdrawing, pruned_log, pruned, after_prune, limited, after_limit_of}
 use Rattle.cache.specs.Laws.{Grow}

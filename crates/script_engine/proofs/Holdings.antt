@@ -18,10 +18,10 @@ use Rattle.conn_log.specs.Sound.{AreDistinct, IsSound}
 use Rattle.conn_log.proofs.Holdings.{unless_it_is, transfers_without, number_closed, number_returned}
 use Rattle.host_state.specs.Steps.{add, moment_at, next_number, without_picked}
 use Rattle.host_state.specs.declared.closing.Closing.TheVariants.{Above}
-use Rattle.host_rules.specs.Calls.{start_new, open_for, open_for_head, open_for_first, unfit_cause, grant_to, settle, after_give_back, after_close, after_abandon, close_granted, after_withdraw, after_limit}
+use Rattle.host_state.specs.Calls.{start_new, open_for, open_for_head, open_for_first, unfit_cause, grant_to, settle, after_give_back, after_close, after_abandon, close_granted, after_withdraw, after_limit}
 use Rattle.script_engine.specs.Law.{is_served}
-use Rattle.host_rules.proofs.Soundness.{closes_above}
-use Rattle.host_rules.proofs.Transfers.{held_here}
+use Rattle.host_state.proofs.Soundness.{closes_above}
+use Rattle.host_state.proofs.Transfers.{held_here}
 use Rattle.cache.specs.Laws.{OnlyServed}
 use Rattle.script_engine.proofs.TicketLists.{no-both}
 

@@ -16,7 +16,7 @@ use Rattle.conn_log.proofs.Soundness.{and_left, and_right}
 use Rattle.budget.specs.Limits.{Bounds, AreLimits}
 use Rattle.budget.specs.declared.refusal.Refusal.{Refusal}
 use Rattle.budget.specs.declared.refusal.Refusal.TheVariants as refusals
-use Rattle.host_rules.specs.Calls.{refusal, limit_refusal, is_busy}
+use Rattle.host_state.specs.Calls.{refusal, limit_refusal, is_busy}
 use Rattle.host_state.specs.Steps.{is_exhausted}
 use Rattle.cache.specs.AllHosts.{AllHosts, log_at, terms, IsAtRest}
 use Rattle.cache.specs.Laws.{NewIsAtRest, AcquireEndsAtRest, GiveBackEndsAtRest, AbandonEndsAtRest, WithdrawEndsAtRest, PruneEndsAtRest, LimitEndsAtRest, NobodyWaitsBesideRoom}

@@ -16,10 +16,10 @@ use Rattle.conn_log.proofs.Soundness.{holds_is}
 use Rattle.conn_log.specs.Legal.{LimitAndFirst}
 use Rattle.budget.specs.declared.refusal.Refusal.TheVariants as refusals
 use Rattle.host_state.specs.Steps.{is_exhausted}
-use Rattle.host_rules.specs.Calls.{refusal, is_busy}
+use Rattle.host_state.specs.Calls.{refusal, is_busy}
 use Rattle.host_state.specs.Queue.{waiting_want}
 use Rattle.bundle.specs.Lease.{HostShown, StaysThere, is_unclaimed, lease_number, ticket_want, is_same_want, is_valid_ticket}
-use Rattle.host_rules.specs.Grants.{granted_want}
+use Rattle.host_state.specs.Grants.{granted_want}
 use Rattle.cache.specs.AllHosts.{log_at}
 use Rattle.script_engine.specs.Meaning.{AtSite, claimed_number}
 use Rattle.bundle.specs.Seats.{Tables}

@@ -16,11 +16,11 @@ use Rattle.budget.specs.Limits.{Bounds, AreLimits}
 use Rattle.budget.specs.declared.refusal.Refusal.{Refusal}
 use Rattle.host_state.specs.declared.closing.Closing.TheVariants.{TooOld}
 use Rattle.host_state.specs.Steps.{moment_at, cause_of, picked}
-use Rattle.host_rules.specs.Calls.{refusal, limit_refusal, is_busy, is_queued, starts_due, kept_limit, Start, Reply, starts, waits_on, no_room, again, becomes_idle, after_give_back, after_abandon, after_withdraw, after_limit, acquired as acquired_at}
-use Rattle.host_rules.specs.Effects.{tidied, asks_for_one}
-use Rattle.host_rules.proofs.Soundness.{later, passing_idle, closes_idle}
-use Rattle.host_rules.proofs.Transfers.{told, Told, awaited_waits}
-use Rattle.host_rules.proofs.Outcomes.{comes_to, ComesTo, Starts, Waits}
+use Rattle.host_state.specs.Calls.{refusal, limit_refusal, is_busy, is_queued, starts_due, kept_limit, Start, Reply, starts, waits_on, no_room, again, becomes_idle, after_give_back, after_abandon, after_withdraw, after_limit, acquired as acquired_at}
+use Rattle.host_state.specs.Effects.{tidied, asks_for_one}
+use Rattle.host_state.proofs.Soundness.{later, passing_idle, closes_idle}
+use Rattle.host_state.proofs.Transfers.{told, Told, awaited_waits}
+use Rattle.host_state.proofs.Outcomes.{comes_to, ComesTo, Starts, Waits}
 use Rattle.cache.specs.AllHosts.{AllHosts, log_at, terms, total, has_room, without_oldest, served, IsLawful}
 use Rattle.cache.specs.Calls.{with_tidied, with_room_for, told_of_total, after_acquire, reply_of, with_room_to_keep, after_giving_back}
 use Rattle.cache.specs.Laws.{HasNothing, AnswersWant, AcquireStartsOrWaits, AllOnlyServed, OthersOnlyServed, ServingOnlyServes, AcquireOnlyServesOthers, GiveBackOnlyServesOthers, AbandonOnlyServesOthers, WithdrawOnlyServesOthers, LimitOnlyServesOthers, PruneOnlyServes}

@@ -13,7 +13,7 @@ use Rattle.conn_key.specs.Sites.{with_site, index_of}
 use Rattle.budget.specs.Limits.{Bounds}
 use Rattle.budget.specs.declared.refusal.Refusal.{Refusal}
 use Rattle.budget.specs.declared.refusal.Refusal.TheVariants.{Memory, BadSite, TransferBusy, StrangeLease, StrangeTicket, Exhausted, Busy, PassesMissing, BadLimit}
-use Rattle.host_rules.specs.Calls.{refusal, limit_refusal}
+use Rattle.host_state.specs.Calls.{refusal, limit_refusal}
 use Rattle.cache.specs.AllHosts.{AllHosts, log_at, terms}
 use Rattle.cache.specs.Calls.{after_giving_back, after_abandoning, after_prune, after_limit_of}
 use Rattle.cache.proofs.Growth.{acquire_grows, give_back_grows, abandon_grows, withdraw_grows, prune_grows, limit_grows}

@@ -10,7 +10,7 @@ use Rattle.conn_log.specs.Waiting.{waiting}
 use Rattle.budget.specs.Limits.{Bounds, bounds_of, is_bad_limit}
 use Rattle.budget.specs.declared.refusal.Refusal.{Refusal}
 use Rattle.budget.specs.declared.refusal.Refusal.TheVariants.{Memory, TransferBusy, Exhausted, Busy}
-use Rattle.host_rules.specs.Calls.{Reply, waits_on, refusal, limit_refusal, is_queued}
+use Rattle.host_state.specs.Calls.{Reply, waits_on, refusal, limit_refusal, is_queued}
 use Rattle.cache.specs.AllHosts.{AllHosts, log_at, terms}
 use Rattle.cache.specs.Calls.{after_acquire, reply_of, after_giving_back, after_abandoning, after_withdrawing, after_prune, after_limit_of}
 use Rattle.conn_key.specs.declared.site.Site.{Site}

@@ -6,7 +6,7 @@ ghost use Rattle.std.specs.Prelude.{[], ◌∷◌, if◌then◌else◌};
 ghost use Rattle.std.specs.Ordering.{nat_cmp};
 ghost use Rattle.std.specs.BTreeMap.{get, keys, btree_map_len, IsEmpty, IsOrdered};
 ghost use Rattle.persistence.specs.declared.facts.Facts.{Facts};
-ghost use Rattle.host_rules.specs.Calls.{refusal};
+ghost use Rattle.host_state.specs.Calls.{refusal};
 ghost use Rattle.bundle.specs.Lease.{lease_number, ticket_want, is_valid_ticket, Spends};
 ghost use Rattle.cache.specs.AllHosts.{terms, log_at};
 ghost use Rattle.cache.specs.Calls.{after_abandoning, after_withdrawing};

@@ -3,7 +3,7 @@ use Rattle.std.proofs.Common.{◌≡◌, ℕ, ◌≤◌, List, Result, Ok, Err, 
 use Rattle.conn_log.specs.declared.entry.Entry.{Entry}
 use Rattle.budget.specs.declared.refusal.Refusal.{Refusal}
 use Rattle.host_state.specs.Steps.{moment_at}
-use Rattle.host_rules.specs.Calls.{kept_limit}
+use Rattle.host_state.specs.Calls.{kept_limit}
 use Rattle.bundle.specs.declared.answers.Changed.{Changed}
 use Rattle.bundle.specs.declared.answers.Changed.TheVariants.{Done, Again}
 use Rattle.bundle.specs.Passes.{Accounts, tells, limit_did}

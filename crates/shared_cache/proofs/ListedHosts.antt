@@ -8,8 +8,8 @@ use Rattle.conn_log.specs.Waiting.{waiting}
 use Rattle.conn_log.specs.Legal.{LimitAndFirst, limit_in_force}
 use Rattle.conn_log.proofs.Soundness.{and_left, and_right}
 use Rattle.host_state.specs.Steps.{is_full}
-use Rattle.host_rules.specs.Calls.{is_anyone, is_queued}
-use Rattle.host_rules.proofs.Soundness.{anyone_is, is_someone}
+use Rattle.host_state.specs.Calls.{is_anyone, is_queued}
+use Rattle.host_state.proofs.Soundness.{anyone_is, is_someone}
 use Rattle.budget.specs.Lobby.{is_listed}
 use Rattle.budget.specs.Marks.{IsAsListed, first_of, hosts_of}
 use Rattle.budget.specs.declared.link.Listing.{Listing}

@@ -7,8 +7,8 @@ use Rattle.atomic_table.specs.Seated.{TableId}
 use Rattle.budget.specs.Words.{Shared, held_by as held_at}
 use Rattle.budget.specs.declared.words.view.SeatView.{SeatView}
 use Rattle.budget.specs.Marks.{Marked}
-use Rattle.host_rules.specs.Calls.{is_queued}
-use Rattle.host_rules.specs.Counts.{held_by}
+use Rattle.host_state.specs.Calls.{is_queued}
+use Rattle.host_state.specs.Counts.{held_by}
 use Rattle.bundle.specs.Lease.{HostShown}
 use Rattle.shared_cache.specs.Names.{CacheNames, HasTables, terms_of}
 use Rattle.shared_cache.specs.Locked.{HostUnder, IsHostUnder}

@@ -2,7 +2,7 @@
 use Rattle.std.specs.Prelude.{◌≡◌, ℕ, ◌<◌, ◌≤◌, is_some}
 use Rattle.budget.specs.declared.refusal.Refusal.{Refusal}
 use Rattle.budget.specs.declared.refusal.Refusal.TheVariants.{TransferBusy, Exhausted, Memory, BadLimit, Busy}
-use Rattle.host_rules.specs.Calls.{greatest_limit, kept_limit}
+use Rattle.host_state.specs.Calls.{greatest_limit, kept_limit}
 use Rattle.conn_log.specs.declared.entry.Want.{Want}
 use Rattle.bundle.specs.declared.answers.Acquired.{Acquired}
 use Rattle.bundle.specs.declared.answers.Acquired.TheVariants.{Lease, Wait}

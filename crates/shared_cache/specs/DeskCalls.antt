@@ -5,7 +5,7 @@ use Rattle.conn_log.specs.declared.entry.Cause.TheVariants.{Dropped}
 use Rattle.conn_log.specs.declared.entry.Event.TheVariants.{Returned, Closed}
 use Rattle.budget.specs.declared.refusal.Refusal.{Refusal}
 use Rattle.budget.specs.declared.refusal.Refusal.TheVariants.{BadSite}
-use Rattle.host_rules.specs.Calls.{start_entry, wait_entry}
+use Rattle.host_state.specs.Calls.{start_entry, wait_entry}
 use Rattle.bundle.specs.Passes.{Accounts, tells, refusal_did}
 use Rattle.bundle.specs.declared.did.Did.{Did}
 use Rattle.bundle.specs.declared.did.Did.TheVariants.{Wrote, Claimed, Still, Stranger}

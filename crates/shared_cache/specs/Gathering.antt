@@ -9,7 +9,7 @@ use Rattle.conn_log.specs.Counts.{counts}
 use Rattle.conn_log.specs.Starts.{start_count}
 use Rattle.budget.specs.declared.refusal.Refusal.{Refusal}
 use Rattle.budget.specs.declared.refusal.Refusal.TheVariants.{Memory, Busy, PassesMissing}
-use Rattle.host_rules.specs.Calls.{leased_len}
+use Rattle.host_state.specs.Calls.{leased_len}
 use Rattle.bundle.specs.Passes.{Accounts, spent_with}
 use Rattle.shared_cache.specs.declared.gathered.Gathered.{Gathered}
 use Rattle.shared_cache.specs.Names.{CacheNames, terms_of}

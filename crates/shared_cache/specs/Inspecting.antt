@@ -2,7 +2,7 @@
 use Rattle.std.specs.Prelude.{◌≡◌, ℕ, ◌≤◌, length}
 use Rattle.conn_log.specs.Connections.{open_connections}
 use Rattle.conn_log.specs.Legal.{IsLegal, IsQuiet, limit_in_force}
-use Rattle.host_rules.specs.Calls.{is_queued}
+use Rattle.host_state.specs.Calls.{is_queued}
 use Rattle.bundle.specs.Lease.{HostShown}
 use Rattle.shared_cache.specs.Names.{CacheNames, HasTables, terms_of}
 

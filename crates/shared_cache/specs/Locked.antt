@@ -4,8 +4,8 @@ use Rattle.budget.specs.Words.{SeatShown, whole, held_by as held_at}
 use Rattle.budget.specs.Permits.{held}
 use Rattle.budget.specs.Lobby.{Queue}
 use Rattle.budget.specs.Marks.{Marked, Listed}
-use Rattle.host_rules.specs.Calls.{is_queued}
-use Rattle.host_rules.specs.Counts.{held_by}
+use Rattle.host_state.specs.Calls.{is_queued}
+use Rattle.host_state.specs.Counts.{held_by}
 use Rattle.bundle.specs.Lease.{HostShown}
 use Rattle.shared_cache.specs.Names.{CacheNames, HasTables, terms_of}
 

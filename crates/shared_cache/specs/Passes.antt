@@ -5,7 +5,7 @@ use Rattle.conn_log.specs.declared.entry.Event.TheVariants.{Limit}
 use Rattle.budget.specs.declared.refusal.Refusal.{Refusal}
 use Rattle.budget.specs.Accounts.{account_at, change_at, spent_at, told, enrolled, IsEnrolledAt}
 use Rattle.budget.specs.Starts.{Spendings}
-use Rattle.host_rules.specs.Calls.{Start, start_entry, wait_entry, kept_limit}
+use Rattle.host_state.specs.Calls.{Start, start_entry, wait_entry, kept_limit}
 use Rattle.bundle.specs.declared.answers.Acquired.{Acquired}
 use Rattle.bundle.specs.declared.answers.Acquired.TheVariants.{Lease, Wait}
 use Rattle.bundle.specs.declared.did.Did.{Did}

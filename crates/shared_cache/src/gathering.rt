@@ -7,7 +7,7 @@ ghost use Rattle.budget.specs.Words.{whole, held_by as held_at};
 ghost use Rattle.budget.specs.Permits.{held};
 ghost use Rattle.conn_log.specs.Starts.{start_count};
 ghost use Rattle.conn_log.specs.Waiting.{waiting};
-ghost use Rattle.host_rules.specs.Calls.{leased_len};
+ghost use Rattle.host_state.specs.Calls.{leased_len};
 ghost use Rattle.bundle.specs.Passes.{spent_with};
 ghost use Rattle.shared_cache.specs.Passes.{IsPassOf};
 ghost use Rattle.shared_cache.specs.Counting.{host_count, logs_of};

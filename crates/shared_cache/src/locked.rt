@@ -3,7 +3,7 @@
 
 ghost use Rattle.std.specs.Prelude.{◌≡◌};
 ghost use Rattle.budget.specs.Marks.{Marked, Listed};
-ghost use Rattle.host_rules.specs.Orders.{order_after};
+ghost use Rattle.host_state.specs.Orders.{order_after};
 
 use crate::names::Names;
 use budget::{BudgetSeat, Link, Lobby, LobbySeat, MarkSeat};

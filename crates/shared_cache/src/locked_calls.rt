@@ -5,7 +5,7 @@ ghost use Rattle.std.specs.Prelude.{IfErr, OnOk, OnErr};
 ghost use Rattle.budget.specs.Accounts.{account_at};
 ghost use Rattle.conn_log.specs.declared.entry.Cause.TheVariants.{Dropped};
 ghost use Rattle.conn_log.specs.declared.entry.Event.TheVariants.{Returned, Closed};
-ghost use Rattle.host_rules.specs.Calls.{is_queued};
+ghost use Rattle.host_state.specs.Calls.{is_queued};
 ghost use Rattle.bundle.specs.Lease.{IsBookedHere};
 ghost use Rattle.bundle.specs.Replies.{IfGot, IfClaimed, IfStill, IsBackAs, OnSpent, UnlessSpent};
 ghost use Rattle.bundle.specs.Replies.{IfChanged, OnChangeAgain};

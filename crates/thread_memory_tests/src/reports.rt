@@ -3,8 +3,8 @@
 use crate::checks::check_eq;
 use crate::making::KEEP;
 use budget::Refusal;
-use cache_report::report_of;
 use exchange::{Answer, Done};
+use load_report::report_of;
 use shared_cache::HostCount;
 
 /// What happened at the one host.

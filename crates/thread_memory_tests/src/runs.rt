@@ -10,10 +10,10 @@ use crate::making::{gathered_with, new_cache, new_pass, new_plan, push, put_by, 
 use crate::peers::{NOW, PeerDial, PeerWire, Still};
 use budget::{Pass, Refusal};
 use bundle::Did;
-use cache_report::totals;
 use conn_key::{CountedMemory, Target, read_target};
 use driver::{DriverFault, NoGate, RunReport, run};
 use exchange::{Done, Fault, Job};
+use load_report::totals;
 use persistence::Method;
 use shared_cache::{Gathered, Names, Plan, SharedCache};
 use std::alloc::{AllocGlobal, Global};

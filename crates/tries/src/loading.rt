@@ -11,7 +11,7 @@ use crate::statuses::{BAD_WORDS, status_of};
 use crate::tally::Tally;
 use budget::Limits;
 use bundle::MOST_HOSTS;
-use cache_report::totals;
+use load_report::totals;
 use shared_cache::HostCount;
 use std::alloc::AllocGlobal;
 use std::io::Write;

@@ -16,7 +16,7 @@ use crate::soaking::crew::soaked;
 use crate::soaking::task::{Task, task_of};
 use crate::statuses::{BAD_WORDS, status_of};
 use budget::Limits;
-use cache_report::totals;
+use load_report::totals;
 use shared_cache::{Gathered, HostCount, Plan};
 use socket::{SystemClock, WaitingWire};
 use std::io::Write;

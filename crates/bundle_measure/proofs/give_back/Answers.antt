@@ -1,7 +1,7 @@
 use Rattle.std.proofs.Common.{rules, sym, subst, ◌∙◌}
 use Rattle.budget.specs.Accounts.{IsEnrolledAt}
-use Rattle.host_rules.specs.Calls.{is_queued}
-use Rattle.host_rules.specs.Orders.{Lists}
+use Rattle.host_state.specs.Calls.{is_queued}
+use Rattle.host_state.specs.Orders.{Lists}
 use Rattle.bundle.specs.Seats.{Tables}
 use Rattle.bundle_measure.proofs.give_back.Goals as goal
 

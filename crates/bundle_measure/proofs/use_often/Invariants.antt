@@ -1,5 +1,5 @@
 use Rattle.std.proofs.Common.{◌≡◌, ◌≤◌, false}
-use Rattle.host_rules.specs.Calls.{is_queued}
+use Rattle.host_state.specs.Calls.{is_queued}
 use Rattle.bundle_measure.proofs.use_often.Given as goal
 
 abbrev pub invariant-loop-round : goal.invariant-loop-round

@@ -1,7 +1,8 @@
 //! Names that the system looks up.
 
 use client::{Answer, LookUps, Names, Resolver};
-use command_line::{Words, system_addresses};
+use command_line::Words;
+use socket::system_addresses;
 use std::alloc::{AllocError, Global};
 use std::cell::RefCell;
 use std::collections::VecDeque;

@@ -12,11 +12,10 @@ use crate::loading::files::{OutputFile, unwritten};
 use crate::loading::outcome::LoadOutcome;
 use crate::loading::sites::LoadSites;
 use crate::status::Status;
-use cache_report::{JobSums, report_with};
 use command_line::{BUILD, LoadPlan, MeasuredNumbers, VERSION};
 use load_report::{
-    Connections, HostRun, LoadReport, LoadRun, OptionValue, SaidOption, Summary, fails_above,
-    json_text, picture_of,
+    Connections, HostRun, JobSums, LoadReport, LoadRun, OptionValue, SaidOption, Summary,
+    fails_above, json_text, picture_of, report_with,
 };
 use load_run::LoadedMany;
 use std::alloc::{AllocError, Global};

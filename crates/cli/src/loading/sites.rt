@@ -10,11 +10,10 @@ ghost use Rattle.cli.specs.LoadSites.{IsListOf, IsPlaceOf, site_lines};
 ghost use Rattle.cli.specs.LoadSites.{IsListAt, IsUnknownAt, IsUnknownIn};
 ghost use Rattle.socket.specs.Hosts.{AddsHost};
 
-use command_line::system_addresses;
 use conn_key::Target;
 use crawl_input::{Resolved, resolved_of};
 use exchange::Job;
-use socket::{AddressFault, Addresses};
+use socket::{AddressFault, Addresses, system_addresses};
 use std::alloc::{AllocError, Global};
 use std::net::SocketAddr;
 use trace_text::add_site;

@@ -8,7 +8,7 @@ use crate::making::{KEEP, cache_of, gathered_with, pass_of, plan_of, want_of};
 use crate::reports::rows::{NEW, REUSED};
 use budget::Pass;
 use bundle::{Acquired, Did};
-use cache_report::report;
+use load_report::report;
 use shared_cache::{Gathered, Names, Plan, SharedCache};
 use std::alloc::AllocGlobal;
 use std::marker::Brand;

@@ -4,8 +4,8 @@
 use crate::checks::check_eq;
 use crate::making::ANSWER;
 use budget::Refusal;
-use cache_report::report_of;
 use exchange::{Answer, Done, Fault};
+use load_report::report_of;
 use shared_cache::HostCount;
 
 /// What a report is of, and its text.

@@ -1,10 +1,10 @@
 use Rattle.std.proofs.Common.{◌≡◌, length, sym, ap, subst, ◌∙◌, arith, rules}
 use Rattle.std.proofs.lemmas.Grind.{common_steps}
 use Rattle.bundle.specs.declared.answers.Got.TheVariants.{Lease}
-use Rattle.host_rules.specs.Calls.{Acquired}
+use Rattle.host_state.specs.Calls.{Acquired}
 use Rattle.bundle.specs.Lease.{Leasing, Using}
 use Rattle.bundle.specs.Replies.{IsGot}
-use Rattle.host_rules.proofs.LeasesAtOnce.{reused_at_once}
+use Rattle.host_state.proofs.LeasesAtOnce.{reused_at_once}
 use Rattle.bundle.proofs.Seating.{apart, start_fits, seated_leased, leased_granted}
 use Rattle.bundle.proofs.Starting.{begins_lease}
 use Rattle.bundle.proofs.Asking.{leased_at_once}

@@ -1,6 +1,6 @@
 use Rattle.std.proofs.Common.{◌≡◌, ℕ, get_or, arith, sym, ap, subst, ◌∙◌}
-use Rattle.host_rules.specs.Bookings.{without_booked}
-use Rattle.host_rules.proofs.Bookings.{removed_booking, without_no_booking}
+use Rattle.host_state.specs.Bookings.{without_booked}
+use Rattle.host_state.proofs.Bookings.{removed_booking, without_no_booking}
 use Rattle.bundle.proofs.Outcomes.{unless_booking}
 use Rattle.bundle.proofs.acquiring.take_booking.Goals as goal
 

@@ -2,7 +2,7 @@ use Rattle.std.proofs.Common.{◌≡◌, ◌+◌, length}
 use Rattle.conn_log.specs.Connections.{idle_connections}
 use Rattle.host_state.specs.Steps.{picked, without_picked}
 use Rattle.host_state.specs.State.{ClosesIdle, open_len, idle_len}
-use Rattle.host_rules.specs.Counts.{held_by}
+use Rattle.host_state.specs.Counts.{held_by}
 use Rattle.bundle.proofs.serving.close_idle.Given as goal
 
 abbrev pub decreases-loop-permits : goal.decreases-loop-permits

@@ -5,7 +5,7 @@ use Rattle.conn_log.specs.Fit.{oldest}
 use Rattle.conn_log.specs.Legal.{IsAnyone}
 use Rattle.host_state.specs.Steps.{add, is_full}
 use Rattle.host_state.specs.State.{HostState, booked_after_start}
-use Rattle.host_rules.specs.Calls.{open_for_head}
+use Rattle.host_state.specs.Calls.{open_for_head}
 use Rattle.bundle.specs.Grants.{with_new}
 use Rattle.bundle.proofs.StartLogs.{fewer_after_head}
 use Rattle.conn_log.specs.Starts.{start_count}

@@ -2,7 +2,7 @@ use Rattle.std.proofs.Common.{◌<◌, length, sym, ap, ◌∙◌, arith}
 use Rattle.budget.specs.declared.permits.Held.{Held}
 use Rattle.conn_log.specs.Waiting.{waiting}
 use Rattle.conn_log.specs.Legal.{limit_in_force}
-use Rattle.host_rules.specs.Calls.{open_for_head}
+use Rattle.host_state.specs.Calls.{open_for_head}
 use Rattle.bundle.specs.Grants.{with_new}
 use Rattle.bundle.proofs.StartLogs.{head_starts, someone_waits, log_left, grants_left}
 use Rattle.bundle.proofs.serving.open_for_first.Goals as goal

@@ -3,7 +3,7 @@ use Rattle.conn_log.specs.Connections.{last_moment, open_connections, idle_conne
 use Rattle.conn_log.specs.Waiting.{waiting}
 use Rattle.conn_log.specs.Sound.{WaitOnce}
 use Rattle.host_state.specs.State.{IsSameHost, limit_of}
-use Rattle.host_rules.specs.Calls.{open_for_first}
+use Rattle.host_state.specs.Calls.{open_for_first}
 use Rattle.bundle.specs.Grants.{with_first, HasSpare, grant_starts}
 use Rattle.bundle.specs.Seats.{IsSeated, AreUnclaimed, OnlyStarts}
 use Rattle.bundle.proofs.serving.open_for_first.Given as goal

@@ -7,24 +7,24 @@ use Rattle.conn_log.specs.Waiting.{waiting}
 use Rattle.host_state.specs.State.{HostState}
 use Rattle.bundle.specs.declared.answers.Got.TheVariants.{Lease}
 use Rattle.bundle.specs.declared.did.Did.TheVariants.{Wrote}
-use Rattle.host_rules.specs.Calls.{start_behind, refusal, is_queued, GrowsBy, start_entry}
+use Rattle.host_state.specs.Calls.{start_behind, refusal, is_queued, GrowsBy, start_entry}
 use Rattle.bundle.specs.Grants.{grant_starts, grant_streams, GrantsKept}
-use Rattle.host_rules.specs.Laws.{IsSoundAndQuiet}
+use Rattle.host_state.specs.Laws.{IsSoundAndQuiet}
 use Rattle.bundle.specs.Lease.{HostShown}
-use Rattle.host_rules.specs.Bookings.{AreBooked}
+use Rattle.host_state.specs.Bookings.{AreBooked}
 use Rattle.bundle.specs.Inside.{GivesAt}
 use Rattle.bundle.specs.Seats.{Tables, SeatsShown, IsSeated, AreUnclaimed, ended_starts, gone}
 use Rattle.bundle.specs.Passes.{tells, got_did, refusal_did}
 use Rattle.bundle.specs.Replies.{IsGot, GivesBooking, UnlessBooking}
-use Rattle.host_rules.proofs.Bookings.{IsOut}
-use Rattle.host_rules.proofs.Soundness.{none_waits}
+use Rattle.host_state.proofs.Bookings.{IsOut}
+use Rattle.host_state.proofs.Soundness.{none_waits}
 use Rattle.bundle.proofs.Outcomes.{count_added, spare_after, bookings_added}
 use Rattle.bundle.proofs.Seating.{unclaimed_same, same_gone}
 use Rattle.bundle.proofs.Telling.{account_there, enrolled_at, accounts_told}
 use Rattle.bundle.proofs.Asking.{not_due}
 use Rattle.bundle.proofs.RepliesInKind.{acquired_for}
-use Rattle.host_rules.specs.Effects.{one_if}
-use Rattle.host_rules.specs.Asks.{asks_to_open, open_asks}
+use Rattle.host_state.specs.Effects.{one_if}
+use Rattle.host_state.specs.Asks.{asks_to_open, open_asks}
 use Rattle.bundle.proofs.AcquiredHosts.{Leaves, leaves, acquires, acquires_at, got_there, not_refused_at_once, grants_after}
 use Rattle.bundle.proofs.host.Bundle.acquire.Given.{Over}
 use Rattle.bundle.proofs.host.Bundle.acquire.Goals as goal

@@ -4,16 +4,16 @@ use Rattle.conn_log.specs.declared.entry.Cause.TheVariants.{Dropped}
 use Rattle.conn_log.specs.Waiting.{waiting}
 use Rattle.conn_log.specs.Starts.{start_count}
 use Rattle.host_state.specs.Idle.{stream_of}
-use Rattle.host_rules.specs.Calls.{is_freed}
-use Rattle.host_rules.specs.Laws.{IsSoundAndQuiet}
+use Rattle.host_state.specs.Calls.{is_freed}
+use Rattle.host_state.specs.Laws.{IsSoundAndQuiet}
 use Rattle.bundle.specs.Lease.{HostShown}
-use Rattle.host_rules.specs.Counts.{held_by}
+use Rattle.host_state.specs.Counts.{held_by}
 use Rattle.bundle.proofs.Answering.{known, there_where, held_told, number_told, freed_spends, spends_at}
-use Rattle.host_rules.proofs.Transfers.{held_here}
+use Rattle.host_state.proofs.Transfers.{held_here}
 use Rattle.bundle.proofs.LeaseEnds.{ends_closed, lease_held, seated_spent, unclaimed_spent, grants_kept, gone_spent, apart_number, apart_transfer, apart_pair}
 use Rattle.bundle.proofs.Settling.{Settled, settled_closed, room_closed, grows_from, unmarked_from}
 use Rattle.bundle.proofs.Halfway.{booked_freed}
-use Rattle.host_rules.proofs.FreedPermits.{part_fewer, freed_close}
+use Rattle.host_state.proofs.FreedPermits.{part_fewer, freed_close}
 use Rattle.bundle.proofs.Accounting.{accounts_spent}
 use Rattle.bundle.proofs.host.Bundle.close_leased.Given.{Over}
 use Rattle.bundle.proofs.host.Bundle.close_leased.Goals as goal

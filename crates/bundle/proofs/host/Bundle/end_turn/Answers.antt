@@ -2,8 +2,8 @@ use Rattle.std.proofs.Common.{◌≡◌, false, sym, ap, subst, ◌∙◌}
 use Rattle.budget.specs.Lobby.{is_listed, without_host}
 use Rattle.budget.proofs.Queues.{listed_first}
 use Rattle.bundle.specs.Lease.{HostShown}
-use Rattle.host_rules.specs.Orders.{HadTurn}
-use Rattle.host_rules.proofs.QueuedHosts.{turn_at_end, turn_left}
+use Rattle.host_state.specs.Orders.{HadTurn}
+use Rattle.host_state.proofs.QueuedHosts.{turn_at_end, turn_left}
 use Rattle.bundle.proofs.host.Bundle.end_turn.Goals as goal
 
 pub returns-then-queued : goal.returns-then-queued

@@ -5,25 +5,25 @@ use Rattle.conn_log.specs.declared.entry.Event.TheVariants.{Left}
 use Rattle.conn_log.specs.Connections.{open_connections}
 use Rattle.conn_log.specs.Waiting.{waiting, waits}
 use Rattle.conn_log.specs.Starts.{start_count}
-use Rattle.host_rules.specs.Calls.{after_withdraw, is_queued, is_freed}
+use Rattle.host_state.specs.Calls.{after_withdraw, is_queued, is_freed}
 use Rattle.host_state.specs.Idle.{stream_of}
 use Rattle.host_state.specs.Steps.{moment_at}
-use Rattle.host_rules.specs.Laws.{IsSoundAndQuiet}
+use Rattle.host_state.specs.Laws.{IsSoundAndQuiet}
 use Rattle.bundle.specs.Grants.{grant_starts}
 use Rattle.bundle.specs.Lease.{HostShown, is_valid_ticket}
-use Rattle.host_rules.specs.Counts.{held_by}
+use Rattle.host_state.specs.Counts.{held_by}
 use Rattle.bundle.specs.Seats.{AreUnclaimed, LeaseSeats, gone}
 use Rattle.bundle.specs.declared.did.Did.TheVariants.{Wrote}
 use Rattle.bundle.specs.Passes.{tells}
-use Rattle.host_rules.proofs.Growth.{grows_withdraw}
-use Rattle.host_rules.proofs.Soundness.{kept_withdraw}
-use Rattle.host_rules.proofs.Marks.{mark_withdraw}
-use Rattle.host_rules.proofs.Transfers.{held_here}
+use Rattle.host_state.proofs.Growth.{grows_withdraw}
+use Rattle.host_state.proofs.Soundness.{kept_withdraw}
+use Rattle.host_state.proofs.Marks.{mark_withdraw}
+use Rattle.host_state.proofs.Transfers.{held_here}
 use Rattle.bundle.proofs.StartLogs.{fewer_without}
 use Rattle.bundle.proofs.Answering.{known, there_where, held_told, stood_waits, claimed_number, freed_spends, spends_at, apart_open}
 use Rattle.bundle.proofs.Settling.{Settled, settled_closed, room_closed, left_log, withdrawn_log, gone_open, left_moved, grows_from, unmarked_from}
 use Rattle.bundle.proofs.Halfway.{booked_freed}
-use Rattle.host_rules.proofs.FreedPermits.{part_fewer, freed_close}
+use Rattle.host_state.proofs.FreedPermits.{part_fewer, freed_close}
 use Rattle.bundle.proofs.Seating.{granted_once, granted_unsplit, seated_claimed, unclaimed_claimed, unclaimed_same, same_gone}
 use Rattle.bundle.proofs.LeaseEnds.{ends_closed, seated_left, seated_spent, granted_spent, gone_spent}
 use Rattle.bundle.proofs.Resting.{not_freed}

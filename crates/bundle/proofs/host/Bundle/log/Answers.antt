@@ -1,7 +1,7 @@
 use Rattle.std.proofs.Common.{◌≡◌, ◌≤◌, Bool, true, false, ◌||◌, is_some, refl, ap, subst, ◌∙◌}
 use Rattle.conn_log.specs.Connections.{is_idle}
 use Rattle.conn_log.specs.Starts.{start_count}
-use Rattle.host_rules.specs.Calls.{leased_len}
+use Rattle.host_state.specs.Calls.{leased_len}
 use Rattle.host_state.specs.Idle.{stream_of}
 use Rattle.bundle.specs.Grants.{grant_streams}
 use Rattle.bundle.specs.Lease.{HostShown, UnclaimedAreStarts}

@@ -5,9 +5,9 @@ use Rattle.conn_log.proofs.Soundness.{sound_empty}
 use Rattle.host_state.specs.State.{HostState}
 use Rattle.bundle.specs.declared.grant.Grant.{Grant}
 use Rattle.bundle.specs.Grants.{grant_starts}
-use Rattle.host_rules.specs.Laws.{IsSoundAndQuiet}
+use Rattle.host_state.specs.Laws.{IsSoundAndQuiet}
 use Rattle.bundle.specs.Seats.{IsSeated, AreUnclaimed}
-use Rattle.host_rules.proofs.Soundness.{nobody_after}
+use Rattle.host_state.proofs.Soundness.{nobody_after}
 use Rattle.bundle.proofs.Seating.{seated_new, unclaimed_new}
 use Rattle.bundle.proofs.host.Bundle.new.Goals as goal
 

@@ -11,7 +11,7 @@ use Rattle.bundle.proofs.Telling.{account_there, enrolled_at, accounts_told}
 use Rattle.bundle.proofs.Answering.{behind_same}
 use Rattle.bundle.proofs.TurnLogs.{prune_keeps, grants_keep, keeps_at, grows_at}
 use Rattle.budget.specs.declared.permits.Held.{Held as Part}
-use Rattle.host_rules.specs.Counts.{held_by}
+use Rattle.host_state.specs.Counts.{held_by}
 use Rattle.bundle.proofs.host.Bundle.prune.Goals as goal
 
 pub invariant_of-self : goal.invariant_of-self

@@ -1,7 +1,7 @@
 use Rattle.std.proofs.Common.{ap, ◌∙◌}
-use Rattle.host_rules.specs.Calls.{is_queued}
+use Rattle.host_state.specs.Calls.{is_queued}
 use Rattle.bundle.specs.Lease.{HostShown}
-use Rattle.host_rules.proofs.QueuedHosts.{queued_if}
+use Rattle.host_state.proofs.QueuedHosts.{queued_if}
 use Rattle.bundle.proofs.host.Bundle.queued.Goals as goal
 
 pub returns-then-anyone_waits : goal.returns-then-anyone_waits

@@ -1,6 +1,6 @@
 use Rattle.std.proofs.Common.{subst}
-use Rattle.host_rules.specs.Calls.{is_queued}
-use Rattle.host_rules.specs.Orders.{IsMarked}
+use Rattle.host_state.specs.Calls.{is_queued}
+use Rattle.host_state.specs.Orders.{IsMarked}
 use Rattle.bundle.proofs.host.Bundle.retry.Goals as goal
 
 pub returns-in-Some-clause-lobby : goal.returns-in-Some-clause-lobby

@@ -1,6 +1,6 @@
 use Rattle.std.proofs.Common.{ap, ◌∙◌, rules}
 use Rattle.host_state.specs.Idle.{stream_of}
-use Rattle.host_rules.specs.Calls.{is_queued}
+use Rattle.host_state.specs.Calls.{is_queued}
 use Rattle.bundle.specs.Lease.{HostShown}
 use Rattle.bundle.specs.Seats.{gone}
 use Rattle.bundle.proofs.Seating.{same_gone}

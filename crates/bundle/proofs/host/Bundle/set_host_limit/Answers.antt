@@ -10,17 +10,17 @@ use Rattle.host_state.specs.State.{HostState}
 use Rattle.bundle.specs.declared.did.Did.TheVariants.{Wrote}
 use Rattle.bundle.specs.Passes.{tells, held_did}
 use Rattle.bundle.specs.Seats.{gone}
-use Rattle.host_rules.specs.Calls.{after_limit, kept_limit, starts_due, is_queued}
+use Rattle.host_state.specs.Calls.{after_limit, kept_limit, starts_due, is_queued}
 use Rattle.bundle.specs.Grants.{with_limit}
 use Rattle.bundle.specs.Lease.{HostShown}
 use Rattle.bundle.proofs.Answering.{both_same}
-use Rattle.host_rules.proofs.QueuedHosts.{host_stayed}
+use Rattle.host_state.proofs.QueuedHosts.{host_stayed}
 use Rattle.bundle.proofs.TurnLogs.{grants_keep, keeps_at, grows_at}
 use Rattle.bundle.proofs.LimitLogs.{AfterLimit, room_left, limit_keeps}
 use Rattle.bundle.proofs.Seating.{same_gone}
 use Rattle.bundle.proofs.Telling.{accounts_told}
 use Rattle.bundle.proofs.Asking.{then_none}
-use Rattle.host_rules.specs.Asks.{limit_asks}
+use Rattle.host_state.specs.Asks.{limit_asks}
 use Rattle.bundle.proofs.host.Bundle.set_host_limit.Given.{Over}
 use Rattle.bundle.proofs.host.Bundle.set_host_limit.Goals as goal
 

@@ -10,24 +10,24 @@ use Rattle.conn_log.specs.Waiting.{waiting}
 use Rattle.conn_log.specs.Starts.{start_count}
 use Rattle.host_state.specs.State.{HostState, ComesBackUnkept}
 use Rattle.host_state.specs.Steps.{add, moment_at}
-use Rattle.host_rules.specs.Calls.{after_give_back, returned, becomes_idle, is_freed}
+use Rattle.host_state.specs.Calls.{after_give_back, returned, becomes_idle, is_freed}
 use Rattle.host_state.specs.Idle.{stream_of}
-use Rattle.host_rules.specs.Laws.{IsSoundAndQuiet}
+use Rattle.host_state.specs.Laws.{IsSoundAndQuiet}
 use Rattle.bundle.specs.Lease.{HostShown, Leasing}
-use Rattle.host_rules.specs.Bookings.{AreBooked}
-use Rattle.host_rules.specs.Counts.{held_by}
+use Rattle.host_state.specs.Bookings.{AreBooked}
+use Rattle.host_state.specs.Counts.{held_by}
 use Rattle.bundle.specs.Grants.{grant_starts, GrantsKept}
 use Rattle.bundle.specs.Seats.{SeatsShown, IsSeated, AreUnclaimed}
-use Rattle.host_rules.proofs.Transfers.{held_here}
+use Rattle.host_state.proofs.Transfers.{held_here}
 use Rattle.bundle.proofs.Answering.{known, freed_spends, spends_at}
 use Rattle.bundle.proofs.Settling.{Settled, settled_passed, settled_ended, alone_passed, room_ended, settled_unkept, passed_kept, ended_gone, grows_from, unmarked_from}
 use Rattle.bundle.proofs.Halfway.{booked_freed}
-use Rattle.host_rules.proofs.FreedPermits.{part_fewer, freed_end}
+use Rattle.host_state.proofs.FreedPermits.{part_fewer, freed_end}
 use Rattle.bundle.proofs.Resting.{back_spent, passed_given_back, ended_given_back, would_rest, back_again, back_not_kept, back_closed, shown, same_lease, full_told, freed_one, if_none, if_some, if_there, passed_open, not_freed, passed_part, released_part}
 use Rattle.bundle.proofs.LeaseEnds.{grants_kept, gone_spent, lease_held, ends_closed, ends_idle, handed_back, seated_spent, unclaimed_spent, tables_here, apart_number, apart_transfer, apart_pair}
 use Rattle.bundle.proofs.Accounting.{accounts_spent}
 use Rattle.bundle.proofs.Asking.{then_none, same_asks, recorded_as, would_stay}
-use Rattle.host_rules.specs.Asks.{recorded_forbids, may_stay}
+use Rattle.host_state.specs.Asks.{recorded_forbids, may_stay}
 use Rattle.bundle.proofs.host.Bundle.take_back.Given.{Over}
 use Rattle.bundle.proofs.host.Bundle.take_back.Goals as goal
 

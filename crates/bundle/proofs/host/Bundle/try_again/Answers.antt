@@ -1,21 +1,21 @@
 use Rattle.std.proofs.Common.{◌≡◌, ℕ, true, List, refl, sym, ap, subst, ◌∙◌, ◌++◌, arith, rules}
 use Rattle.conn_log.specs.declared.entry.Want.{Want}
 use Rattle.conn_log.specs.Connections.{is_among}
-use Rattle.host_rules.specs.Calls.{is_queued, GrowsBy}
+use Rattle.host_state.specs.Calls.{is_queued, GrowsBy}
 use Rattle.bundle.specs.Grants.{grant_starts, grant_streams}
-use Rattle.host_rules.specs.Laws.{IsSoundAndQuiet}
+use Rattle.host_state.specs.Laws.{IsSoundAndQuiet}
 use Rattle.bundle.specs.Lease.{HostShown}
 use Rattle.bundle.specs.Passes.{tells, got_did}
 use Rattle.bundle.specs.Seats.{Tables, gone}
 use Rattle.bundle.specs.Replies.{Acquires}
-use Rattle.host_rules.specs.Bookings.{without_booked}
-use Rattle.host_rules.proofs.Bookings.{fewer_booked, out_by}
+use Rattle.host_state.specs.Bookings.{without_booked}
+use Rattle.host_state.proofs.Bookings.{fewer_booked, out_by}
 use Rattle.bundle.proofs.Outcomes.{count_left, spare_after, bookings_left}
 use Rattle.bundle.proofs.Seating.{unclaimed_same, same_gone}
 use Rattle.bundle.proofs.Telling.{account_there, enrolled_at, accounts_told}
 use Rattle.bundle.proofs.RepliesInKind.{acquired_for}
-use Rattle.host_rules.specs.Effects.{one_if}
-use Rattle.host_rules.specs.Asks.{asks_to_open, open_asks}
+use Rattle.host_state.specs.Effects.{one_if}
+use Rattle.host_state.specs.Asks.{asks_to_open, open_asks}
 use Rattle.bundle.proofs.AcquiredHosts.{Leaves, leaves, acquires, acquires_at, got_there, grants_after}
 use Rattle.bundle.proofs.host.Bundle.try_again.Given.{Over}
 use Rattle.bundle.proofs.host.Bundle.try_again.Goals as goal

@@ -1,6 +1,6 @@
 use Rattle.std.proofs.Common.{sym, ap, ◌∙◌}
-use Rattle.host_rules.specs.Calls.{after_abandon}
-use Rattle.host_rules.specs.Laws.{IsSoundAndQuiet}
+use Rattle.host_state.specs.Calls.{after_abandon}
+use Rattle.host_state.specs.Laws.{IsSoundAndQuiet}
 use Rattle.cache.specs.AllHosts.{marked}
 use Rattle.cache.proofs.HostParts.{part_changed}
 use Rattle.cache.proofs.OneHost.{all_marked, stepped, there_inside}

@@ -4,8 +4,8 @@ use Rattle.budget.specs.Limits.{Bounds}
 use Rattle.conn_log.specs.declared.entry.Want.{Want}
 use Rattle.conn_log.specs.Connections.{is_among, is_idle}
 use Rattle.bundle.specs.declared.answers.Got.TheVariants.{NoRoom}
-use Rattle.host_rules.specs.Calls.{no_room, refusal, acquired as acquired_at}
-use Rattle.host_rules.specs.Laws.{IsSoundAndQuiet}
+use Rattle.host_state.specs.Calls.{no_room, refusal, acquired as acquired_at}
+use Rattle.host_state.specs.Laws.{IsSoundAndQuiet}
 use Rattle.bundle.specs.Lease.{HostShown, Booked, IsBookedHere}
 use Rattle.bundle.specs.Replies.{IsGot}
 use Rattle.bundle.specs.Starts.{AcquiresAt}

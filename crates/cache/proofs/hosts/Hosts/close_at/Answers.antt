@@ -1,8 +1,8 @@
 use Rattle.std.proofs.Common.{◌+◌, ℕ, slice_set, refl, sym, ap, subst, ◌∙◌}
 use Rattle.budget.specs.Accounts.{spent_at}
 use Rattle.conn_log.specs.Fit.{oldest_stamp}
-use Rattle.host_rules.specs.Calls.{is_queued}
-use Rattle.host_rules.specs.Laws.{IsSoundAndQuiet}
+use Rattle.host_state.specs.Calls.{is_queued}
+use Rattle.host_state.specs.Laws.{IsSoundAndQuiet}
 use Rattle.bundle.specs.Lease.{HostShown, KeepsAll, KeepsStreams}
 use Rattle.cache.specs.AllHosts.{oldest_of_all}
 use Rattle.cache.specs.Pools.{PoolShown, all_hosts, KeepsHost}

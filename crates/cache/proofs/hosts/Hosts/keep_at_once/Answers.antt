@@ -1,11 +1,11 @@
-use Rattle.host_rules.specs.Effects.{idle_len}
+use Rattle.host_state.specs.Effects.{idle_len}
 use Rattle.std.proofs.Common.{◌≡◌, ℕ, true, slice_set, refl, sym, ap, subst, ◌∙◌}
 use Rattle.std.specs.Prelude.{if◌then◌else◌}
 use Rattle.cache.specs.Oldest.{earlier_of, is_since_before, stamp_at}
 use Rattle.cache.proofs.OldestStamps.{given_back_not_later}
-use Rattle.host_rules.specs.Calls.{after_give_back, becomes_idle, is_queued}
+use Rattle.host_state.specs.Calls.{after_give_back, becomes_idle, is_queued}
 use Rattle.conn_log.specs.Fit.{oldest_stamp}
-use Rattle.host_rules.specs.Laws.{IsSoundAndQuiet}
+use Rattle.host_state.specs.Laws.{IsSoundAndQuiet}
 use Rattle.cache.specs.AllHosts.{marked}
 use Rattle.cache.proofs.HostParts.{part_changed}
 use Rattle.cache.proofs.AtHost.{taken_at}

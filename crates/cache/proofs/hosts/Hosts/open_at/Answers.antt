@@ -1,8 +1,8 @@
 use Rattle.std.proofs.Common.{◌≡◌, ◌+◌, ℕ, true, slice_set, slice_get, Some, refl, sym, ap, subst, ◌∙◌}
 use Rattle.budget.specs.Accounts.{spent_at}
 use Rattle.budget.proofs.Queues.{listed_first}
-use Rattle.host_rules.specs.Calls.{is_queued, after_turn}
-use Rattle.host_rules.specs.Laws.{IsSoundAndQuiet}
+use Rattle.host_state.specs.Calls.{is_queued, after_turn}
+use Rattle.host_state.specs.Laws.{IsSoundAndQuiet}
 use Rattle.bundle.specs.Lease.{HostShown, KeepsAll}
 use Rattle.bundle.specs.Replies.{answer_of}
 use Rattle.cache.specs.AllHosts.{has_room}

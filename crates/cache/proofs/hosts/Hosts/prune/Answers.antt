@@ -1,5 +1,5 @@
 use Rattle.std.proofs.Common.{◌<◌, ◌≤◌, length, subst, rules, arith}
-use Rattle.host_rules.specs.Laws.{IsSoundAndQuiet}
+use Rattle.host_state.specs.Laws.{IsSoundAndQuiet}
 use Rattle.cache.specs.AllHosts.{log_at, kept, terms}
 use Rattle.cache.specs.Pools.{PoolShown, all_hosts}
 use Rattle.cache.proofs.Pruning.{none_pruned, one_more_pruned, all_pruned, all_pruned_counted}

@@ -1,7 +1,7 @@
 use Rattle.std.proofs.Common.{Some, sym, ap, ◌∙◌}
 use Rattle.conn_log.specs.Fit.{oldest_stamp}
 use Rattle.bundle.specs.declared.did.Did.TheVariants.{Pruned as WasPruned}
-use Rattle.host_rules.specs.Laws.{IsSoundAndQuiet}
+use Rattle.host_state.specs.Laws.{IsSoundAndQuiet}
 use Rattle.cache.specs.Calls.{pruned_log}
 use Rattle.cache.proofs.HostParts.{part_changed}
 use Rattle.cache.proofs.OneHost.{stepped, there_inside}

@@ -3,9 +3,9 @@ use Rattle.std.specs.Prelude.{min}
 use Rattle.std.specs.List.{sum_by}
 use Rattle.budget.specs.Lobby.{Queue}
 use Rattle.host_state.specs.Steps.{moment_at}
-use Rattle.host_rules.specs.Calls.{after_limit, limit_refusal, kept_limit, starts_due, is_queued}
-use Rattle.host_rules.specs.Effects.{open_len}
-use Rattle.host_rules.specs.Laws.{IsSoundAndQuiet}
+use Rattle.host_state.specs.Calls.{after_limit, limit_refusal, kept_limit, starts_due, is_queued}
+use Rattle.host_state.specs.Effects.{open_len}
+use Rattle.host_state.specs.Laws.{IsSoundAndQuiet}
 use Rattle.bundle.specs.Passes.{limit_did}
 use Rattle.cache.specs.AllHosts.{marked}
 use Rattle.cache.specs.Pools.{logs_of}

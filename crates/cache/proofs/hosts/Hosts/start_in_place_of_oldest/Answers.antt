@@ -1,8 +1,8 @@
 use Rattle.std.proofs.Common.{◌≡◌, ◌<◌, length, refl, sym, ap, subst, ◌∙◌, true, slice_set}
 use Rattle.std.proofs.lemmas.List.{length-set}
-use Rattle.host_rules.specs.Calls.{acquired as acquired_at}
-use Rattle.host_rules.specs.Bookings.{without_booked}
-use Rattle.host_rules.specs.Laws.{IsSoundAndQuiet}
+use Rattle.host_state.specs.Calls.{acquired as acquired_at}
+use Rattle.host_state.specs.Bookings.{without_booked}
+use Rattle.host_state.specs.Laws.{IsSoundAndQuiet}
 use Rattle.bundle.specs.Lease.{KeepsStreams}
 use Rattle.bundle.specs.Replies.{IsGot}
 use Rattle.bundle.specs.Starts.{AcquiresAt}

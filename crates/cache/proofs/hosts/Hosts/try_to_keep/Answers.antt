@@ -1,7 +1,7 @@
-use Rattle.host_rules.specs.Effects.{idle_len}
+use Rattle.host_state.specs.Effects.{idle_len}
 use Rattle.std.proofs.Common.{◌≡◌, true, sym, ap, ◌∙◌}
-use Rattle.host_rules.specs.Calls.{after_give_back, becomes_idle}
-use Rattle.host_rules.specs.Laws.{IsSoundAndQuiet}
+use Rattle.host_state.specs.Calls.{after_give_back, becomes_idle}
+use Rattle.host_state.specs.Laws.{IsSoundAndQuiet}
 use Rattle.cache.specs.AllHosts.{marked}
 use Rattle.cache.proofs.HostParts.{part_changed}
 use Rattle.conn_log.specs.Connections.{is_open}

@@ -4,7 +4,7 @@ use Rattle.budget.specs.declared.refusal.Refusal.TheVariants as refusals
 use Rattle.budget.specs.Limits.{Bounds}
 use Rattle.conn_log.specs.declared.entry.Entry.{Entry}
 use Rattle.conn_log.specs.declared.entry.Want.{Want}
-use Rattle.host_rules.specs.Calls.{refusal}
+use Rattle.host_state.specs.Calls.{refusal}
 use Rattle.cache.specs.AllHosts.{terms, log_at}
 use Rattle.cache.specs.Pools.{host_at}
 use Rattle.cache.proofs.OneHost.{log_is}

@@ -1,7 +1,7 @@
 use Rattle.std.proofs.Common.{◌≡◌, ◌⊎◌, ℕ, refl, sym, ◌∙◌, ap, subst, inl, inr, string_bytes, Some, None, Err}
 use Rattle.budget.specs.declared.refusal.Refusal.{Refusal}
 use Rattle.budget.specs.declared.refusal.Refusal.TheVariants as refusals
-use Rattle.host_rules.specs.Calls.{limit_refusal}
+use Rattle.host_state.specs.Calls.{limit_refusal}
 use Rattle.cache.specs.AllHosts.{AllHosts, log_at}
 use Rattle.cache.specs.Pools.{PoolShown, host_at, all_hosts}
 use Rattle.cache.specs.PoolCalls.{limit_refusal_at}

@@ -1,8 +1,8 @@
 use Rattle.std.proofs.Common.{◌≡◌, List, refl, sym, ◌∙◌, ap, subst, string_bytes, Ok, Err}
 use Rattle.conn_log.specs.declared.entry.Entry.{Entry}
 use Rattle.conn_log.specs.Legal.{LimitAndFirst}
-use Rattle.host_rules.specs.Calls.{is_queued}
-use Rattle.host_rules.specs.Counts.{snapshot_of}
+use Rattle.host_state.specs.Calls.{is_queued}
+use Rattle.host_state.specs.Counts.{snapshot_of}
 use Rattle.cache.specs.AllHosts.{terms, log_at}
 use Rattle.cache.specs.Pools.{host_at, all_hosts}
 use Rattle.cache.proofs.OneHost.{log_is}

@@ -1,7 +1,0 @@
-use Rattle.std.proofs.Common.{◌≡◌, sum_by, take}
-use Rattle.cache_report.specs.Report.{shown_sum, body_len}
-use Rattle.cache_report.proofs.sums.body_total.Given as goal
-
--- the bytes of the transfers so far
-abbrev pub invariant-loop-done : goal.invariant-loop-done
-invariant-loop-done l = l.total ≡ shown_sum (sum_by body_len (take l.done-index l.results))

@@ -1,5 +1,0 @@
-use Rattle.host_rules.proofs.AsksToKeep.{kept_is_idle}
-use Rattle.host_rules.proofs.laws.give_backs_ask_for_what_stays.Goals as goal
-
-pub returns : goal.returns
-returns c = kept_is_idle
