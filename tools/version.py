@@ -10,7 +10,7 @@ CHANGES = "CHANGELOG.md"
 NAMING = {
     HEADER: r'#define CURLPOOL_VERSION "(.+)"',
     CHANGES: r"## (\d\S*)",
-    "crates/command_line/src/build.rt": r'.*"(\d+\.\d+\.\d+)',
+    "crates/commands/src/build.rt": r'.*"(\d+\.\d+\.\d+)',
     "rust/curlpool/Cargo.toml": r'version = "(.+)"',
     "rust/curlpool-sys/Cargo.toml": r'version = "(.+)"',
 }

@@ -5,7 +5,7 @@ use Rattle.exchange.specs.Worlds.{World}
 use Rattle.cli.specs.LoadJobs.{AsksOwn}
 use Rattle.cli.specs.LoadRuns.{IsUnknownHost, ReportsLoad, ReportsRun}
 use Rattle.cli.specs.declared.loading.outcome.LoadOutcome.{LoadOutcome}
-use Rattle.command_line.specs.declared.load_plan.LoadPlan.{LoadPlan}
+use Rattle.commands.specs.declared.load_plan.LoadPlan.{LoadPlan}
 
 module _ {W E : Type 0} (world : World W) where
   -- a load of the plan's URLs

@@ -5,11 +5,11 @@ use Rattle.std.proofs.lemmas.List.{map-append, take_more}
 use Rattle.std.proofs.lemmas.Nat.{mod_below}
 use Rattle.exchange.specs.declared.job.Job.{Job}
 use Rattle.cli.specs.LoadJobs.{AreOwnJobs, IsOwnJob, own_url}
-use Rattle.command_line.specs.Numbering.{AreNumbered}
-use Rattle.command_line.specs.declared.load_measured.MeasuredFlags.{MeasuredFlags}
+use Rattle.commands.specs.Numbering.{AreNumbered}
+use Rattle.commands.specs.declared.load_settings.LoadFlags.{LoadFlags}
 
 -- one more request
-pub own_jobs_more : (flags : MeasuredFlags) (ports : List ℕ) (number : ℕ) (jobs : List Job) (job : Job) → AreOwnJobs flags ports number jobs → IsOwnJob flags ports (number + length jobs) job → AreOwnJobs flags ports number (jobs ++ job ∷ [])
+pub own_jobs_more : (flags : LoadFlags) (ports : List ℕ) (number : ℕ) (jobs : List Job) (job : Job) → AreOwnJobs flags ports number jobs → IsOwnJob flags ports (number + length jobs) job → AreOwnJobs flags ports number (jobs ++ job ∷ [])
 own_jobs_more flags ports number [] job so_far one = (subst (λ n. IsOwnJob flags ports n job) (omega arith) one, tt)
 own_jobs_more flags ports number (j ∷ jobs) job so_far one =
     (so_far.0, own_jobs_more flags ports (number + 1) jobs job so_far.1 (subst (λ n. IsOwnJob flags ports n job) (omega arith) one))
@@ -34,7 +34,7 @@ next_own number count some = by_order (order number count)
     by_order (inl below) = let same = mod-eq_of_lt below in (omega (arith, below, same), omega (arith, below, same))
     by_order (inr past) = let least = mod_below number count some in (omega (arith, past, least), omega (arith, past, least))
 
-pub own_numbered : (flags : MeasuredFlags) (ports : List ℕ) (number : ℕ) (jobs : List Job) → 0 < length ports → AreOwnJobs flags ports number jobs → AreNumbered (min number (length ports)) jobs
+pub own_numbered : (flags : LoadFlags) (ports : List ℕ) (number : ℕ) (jobs : List Job) → 0 < length ports → AreOwnJobs flags ports number jobs → AreNumbered (min number (length ports)) jobs
 own_numbered flags ports number [] some are = tt
 own_numbered flags ports number (job ∷ jobs) some are =
     let count = length ports in

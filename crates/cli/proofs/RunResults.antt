@@ -25,7 +25,7 @@ use Rattle.cli.proofs.FirstNumbers.{length_first}
 use Rattle.cli.proofs.LoadResults.{Tallies, tallies_bad, tallies_both, tallies_good, tallies_none, tallies_skip}
 use Rattle.cli.specs.LoadRuns.{CountsAll, RunsMany, ends_in, job_sums, jobs_planned, lacks_jobs, load_lines, results_in}
 use Rattle.cli.specs.declared.loading.outcome.LoadOutcome.{LoadOutcome}
-use Rattle.command_line.specs.declared.load_plan.LoadPlan.{LoadPlan}
+use Rattle.commands.specs.declared.load_plan.LoadPlan.{LoadPlan}
 
 -- a result with any outcome, without `--fail`
 tallies_late : (b : Bool) (latency : ℕ) (results : List Done) (counts : JobCounts) → Tallies results counts → Tallies (Bad Cancelled ∷ results) (counted (Bad Cancelled) (if b then Outcome.Failed else Outcome.Stopped) latency counts)

@@ -6,12 +6,12 @@ use Rattle.std.specs.Global.{Vec}
 use Rattle.std.specs.declared.net.socket_addr.SocketAddr.{SocketAddr}
 use Rattle.std.proofs.lemmas.List.{drop_more, take_more}
 use Rattle.std.proofs.lemmas.List.Elements.{All-push, All-weaker}
-use Rattle.crawl_input.specs.declared.resolved.Resolved.{Resolved}
+use Rattle.commands.specs.declared.resolved.Resolved.{Resolved}
 use Rattle.conn_key.specs.declared.target.Target.{Target}
 use Rattle.exchange.specs.declared.job.Job.{Job}
 use Rattle.socket.specs.Hosts.{AddsHost, Names}
 use Rattle.cli.specs.LoadSites.{AreAddressesOf, AreAllBelow, AreLocated, AreSitesOf, IsListAt, IsListOf, IsPlaceOf, IsSiteOf, site_lines}
-use Rattle.command_line.specs.Numbering.{AreNumbered}
+use Rattle.commands.specs.Numbering.{AreNumbered}
 use Rattle.trace_text.specs.HostLines.{site_line}
 use Rattle.cli.specs.declared.loading.sites.LoadSite.{LoadSite}
 use Rattle.cli.specs.declared.loading.sites.Place.{Place}

@@ -1,7 +1,7 @@
 -- Sites of a load whose hosts the system does not know.
 use Rattle.std.proofs.Common.{◌≡◌, ◌<◌, ℕ, List, ◌⊎◌, length, get_or, sym, subst, inl, Result, Ok, Err}
 use Rattle.std.specs.Prelude.{IfOk}
-use Rattle.crawl_input.specs.declared.resolved.Resolved.{Resolved}
+use Rattle.commands.specs.declared.resolved.Resolved.{Resolved}
 use Rattle.exchange.specs.declared.job.Job.{Job}
 use Rattle.cli.specs.LoadSites.{IsUnknownAt, IsUnknownIn}
 use Rattle.cli.specs.declared.loading.sites.SiteFault.{SiteFault}

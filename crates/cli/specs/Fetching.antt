@@ -3,19 +3,19 @@ use Rattle.std.specs.Option.{option_map}
 use Rattle.std.specs.Prelude.{◌≡◌, ◌⊎◌, ◌==◌, ℕ, Option, Some, None, List, string_bytes, if◌then◌else◌}
 use Rattle.clap.specs.Words.{Text}
 use Rattle.client.specs.Crawling.{CrawlGiven, Crawls}
-use Rattle.crawl_input.specs.Given.{url_texts}
+use Rattle.commands.specs.Given.{url_texts}
 use Rattle.client.specs.declared.crawl.Crawled.{Crawled}
 use Rattle.client.specs.declared.crawl.fault.CrawlFault.{CrawlFault}
 use Rattle.client.specs.declared.crawl.fault.CrawlFault.TheVariants as faults
-use Rattle.crawl_input.specs.declared.options.UrlFile.{UrlFile}
-use Rattle.crawl_input.specs.declared.options.UrlFile.TheVariants as files
+use Rattle.commands.specs.declared.crawl_options.UrlFile.{UrlFile}
+use Rattle.commands.specs.declared.crawl_options.UrlFile.TheVariants as files
 use Rattle.exchange.specs.declared.job.Job.{Job}
 use Rattle.run_loop.specs.Taking.{JobResult}
 use Rattle.streams.specs.Streams.{Stream}
 use Rattle.cli.specs.Auditing.{Opening}
 use Rattle.command_line.specs.GetPlans.{plan_file}
 use Rattle.command_line.specs.Inputs.{asked_file}
-use Rattle.command_line.specs.declared.get_plan.CrawlPlan.{CrawlPlan}
+use Rattle.commands.specs.declared.crawl_plan.CrawlPlan.{CrawlPlan}
 
 -- 0 if each URL has a good response and its line, 2 if a bad URL ended the crawl, else 4
 abbrev pub status_by : Option CrawlFault → ℕ → ℕ

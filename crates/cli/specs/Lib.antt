@@ -1,4 +1,3 @@
-pub mod Statuses
 pub mod Auditing
 pub mod Fetching
 pub mod LoadJobs

@@ -2,20 +2,20 @@
 use Rattle.std.specs.Prelude.{◌≡◌, ◌+◌, ◌%◌, ◌++◌, ℕ, codes, List, [], ◌∷◌, length, map, max, string_bytes, slice_index, Option, Some, None}
 use Rattle.std.specs.Fmt.{decimal}
 use Rattle.exchange.specs.declared.job.Job.{Job}
-use Rattle.command_line.specs.LoadUrls.{url_job}
-use Rattle.command_line.specs.declared.load_limits.LoadOptions.{LoadOptions}
-use Rattle.command_line.specs.declared.load_plan.LoadPlan.{LoadPlan}
-use Rattle.command_line.specs.declared.load_measured.MeasuredFlags.{MeasuredFlags}
+use Rattle.commands.specs.LoadJob.{url_job}
+use Rattle.commands.specs.declared.load_limits.LoadOptions.{LoadOptions}
+use Rattle.commands.specs.declared.load_plan.LoadPlan.{LoadPlan}
+use Rattle.commands.specs.declared.load_settings.LoadFlags.{LoadFlags}
 
 -- request K is for the path /K at site K modulo the number of sites, on the site's port of 127.0.0.1
-pub record IsOwnJob (flags : MeasuredFlags) (ports : List ℕ) (number : ℕ) (job : Job) : Type 0 where
+pub record IsOwnJob (flags : LoadFlags) (ports : List ℕ) (number : ℕ) (job : Job) : Type 0 where
   pub is_job : job ≡ url_job flags (number % length ports) job.target
   pub host : string_bytes job.target.host ≡ codes "127.0.0.1"
   pub port : job.target.port ≡ slice_index ports (number % length ports)
   pub path : string_bytes job.target.path ≡ codes "/" ++ decimal number
 
 -- requests with consecutive numbers, the first of which is `number`
-abbrev pub AreOwnJobs : MeasuredFlags → List ℕ → ℕ → List Job → Type 0
+abbrev pub AreOwnJobs : LoadFlags → List ℕ → ℕ → List Job → Type 0
 AreOwnJobs flags ports number [] = Unit {0}
 AreOwnJobs flags ports number (job ∷ jobs) = IsOwnJob flags ports number job × AreOwnJobs flags ports (number + 1) jobs
 

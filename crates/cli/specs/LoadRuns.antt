@@ -24,9 +24,9 @@ use Rattle.socket.specs.declared.polled.PolledWire.{PolledWire}
 use Rattle.cli.specs.LoadJobs.{AsksOwn}
 use Rattle.cli.specs.LoadSites.{AreAllBelow, AreLocated, IsNameIn}
 use Rattle.cli.specs.LoadStatuses.{load_status}
-use Rattle.command_line.specs.declared.load_limits.LoadOptions.{LoadOptions}
+use Rattle.commands.specs.declared.load_limits.LoadOptions.{LoadOptions}
 use Rattle.cli.specs.declared.loading.outcome.LoadOutcome.{LoadOutcome}
-use Rattle.command_line.specs.declared.load_plan.LoadPlan.{LoadPlan}
+use Rattle.commands.specs.declared.load_plan.LoadPlan.{LoadPlan}
 
 -- polled sockets, whose bytes no contract restricts, and a clock, whose readings no contract restricts
 abbrev pub polled_world : World (PolledWire MioStream)

@@ -4,8 +4,8 @@ use Rattle.std.specs.List.{All, Contains}
 use Rattle.std.specs.Global.{Vec}
 use Rattle.std.specs.declared.net.socket_addr.SocketAddr.{SocketAddr}
 use Rattle.clap.specs.Words.{Text}
-use Rattle.crawl_input.specs.Given.{IsGivenAddress}
-use Rattle.crawl_input.specs.declared.resolved.Resolved.{Resolved}
+use Rattle.commands.specs.Given.{IsGivenAddress}
+use Rattle.commands.specs.declared.resolved.Resolved.{Resolved}
 use Rattle.conn_key.specs.declared.target.Target.{Target}
 use Rattle.exchange.specs.declared.job.Job.{Job}
 use Rattle.trace_text.specs.HostLines.{site_line}

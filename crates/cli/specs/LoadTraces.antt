@@ -8,7 +8,7 @@ use Rattle.streams.specs.Streams.{PutFails, Puts, Stream}
 use Rattle.conn_log.specs.declared.entry.Entry.{Entry}
 use Rattle.trace_text.specs.HostUses.{AreUsesOf}
 use Rattle.trace_text.specs.declared.host_trace.HostTrace.{HostTrace}
-use Rattle.command_line.specs.declared.load_limits.LoadOptions.{LoadOptions}
+use Rattle.commands.specs.declared.load_limits.LoadOptions.{LoadOptions}
 use Rattle.cli.specs.declared.loading.tracing.LoadTrace.{LoadTrace}
 use Rattle.cli.specs.declared.loading.tracing.LoadTrace.TheVariants.{Open, Failed}
 use Rattle.cli.specs.declared.loading.tracing.OpenTrace.{OpenTrace}

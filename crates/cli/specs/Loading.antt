@@ -3,7 +3,7 @@ use Rattle.std.specs.Prelude.{◌≡◌, ℕ, codes, string_bytes, Result, Ok, E
 use Rattle.clap.specs.Words.{Text}
 use Rattle.streams.specs.declared.stream_fault.StreamFault.{StreamFault}
 use Rattle.streams.specs.Streams.{Stream, Puts}
-use Rattle.command_line.specs.declared.load_plan.LoadPlan.{LoadPlan}
+use Rattle.commands.specs.declared.load_plan.LoadPlan.{LoadPlan}
 use Rattle.cli.specs.declared.loading.outcome.LoadOutcome.{LoadOutcome}
 use Rattle.cli.specs.declared.loading.failure.LoadFailure.{LoadFailure}
 use Rattle.cli.specs.declared.loading.fault.LoadFault.{LoadFault}

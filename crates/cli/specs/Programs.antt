@@ -3,8 +3,8 @@ use Rattle.std.specs.Prelude.{◌≡◌, ◌⊎◌, ℕ, Bool, List, string_byte
 use Rattle.std.specs.Option.{option_map}
 use Rattle.clap.specs.Words.{Kinds, Text}
 use Rattle.script_text.specs.declared.fault.ScriptFault.{ScriptFault}
-use Rattle.command_line.specs.declared.get_plan.CrawlPlan.{CrawlPlan}
-use Rattle.command_line.specs.declared.load_plan.LoadPlan.{LoadPlan}
+use Rattle.commands.specs.declared.crawl_plan.CrawlPlan.{CrawlPlan}
+use Rattle.commands.specs.declared.load_plan.LoadPlan.{LoadPlan}
 use Rattle.command_line.specs.declared.request.Request.{Request}
 use Rattle.command_line.specs.declared.request.Request.TheVariants as requests
 use Rattle.streams.specs.Streams.{Stream}

@@ -5,10 +5,10 @@ ghost use Rattle.cli.specs.Auditing.{AnswersAudit, audit_status, stop_status};
 ghost use Rattle.command_line.specs.Inputs.{name_of};
 ghost use Rattle.streams.specs.Streams.{CanCount};
 
-use crate::status::Status;
 use crate::system::System;
 use audit_stream::{AuditStop, Verdict, audit_file, audit_stream};
 use command_line::{AuditWords, Input};
+use commands::Status;
 use std::alloc::Global;
 use std::io::Write;
 use streams::{Files, Sink, Source};

@@ -9,12 +9,9 @@ ghost use Rattle.streams.specs.Streams.{CanCount};
 pub(crate) mod system_names;
 pub(crate) mod system_network;
 
-use crate::file_fault::{FileAction, write_file_fault};
-use crate::status::Status;
 use crate::system::System;
 use client::{Crawl, CrawlFault, Crawled, Network};
-use command_line::CrawlPlan;
-use crawl_input::UrlFile;
+use commands::{CrawlPlan, FileAction, Status, UrlFile, write_file_fault};
 use std::alloc::Global;
 use std::io::{self, Write};
 use streams::{Files, Sink, Source, StreamFault};

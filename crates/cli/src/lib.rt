@@ -3,12 +3,10 @@
 #![tactic(auto)]
 
 mod auditing;
-mod file_fault;
 mod get;
 mod loading;
 mod program;
 mod script;
-mod status;
 mod system;
 
 pub use get::run_get;

@@ -18,8 +18,7 @@ pub(crate) mod system;
 pub(crate) mod tracing;
 pub(crate) mod watch;
 
-use crate::status::Status;
-use command_line::LoadPlan;
+use commands::{LoadPlan, Status};
 use failure::LoadFailure;
 use fault::{LoadFault, OUT_OF_MEMORY};
 use outcome::LoadOutcome;

@@ -8,10 +8,9 @@ ghost use Rattle.streams.specs.Streams.{CanCount};
 
 mod picturing;
 
-use crate::file_fault::{FileAction, write_file_fault};
-use crate::status::Status;
 use crate::system::System;
 use command_line::{Input, ScriptWords};
+use commands::{FileAction, Status, write_file_fault};
 use picturing::Painter;
 use script_engine::{Unseen, Viewer, run_file_for, run_script_for};
 use script_text::ScriptFault;

@@ -6,7 +6,7 @@ use crate::running::words_of;
 use cli::{LoadFault, System, SystemNetwork, run_program};
 use client::{LookUps, Network, NetworkFault};
 use command_line::CountedArgsAlloc;
-use crawl_input::CrawlOptions;
+use commands::CrawlOptions;
 use loopback_server::Server;
 use std::alloc::{AllocError, AllocGlobal, Global};
 use std::fmt::Write;

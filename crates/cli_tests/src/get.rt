@@ -6,7 +6,7 @@ use crate::running::{ROW, Row, Text, check, check_stopped, check_words};
 use crate::streams::Failing;
 use client::{Crawl, CrawlFault, Crawled, NetworkFault, Tally};
 use command_line::Words;
-use crawl_input::{CrawlFlags, CrawlOptions, UrlFile};
+use commands::{CrawlFlags, CrawlOptions, UrlFile};
 use persistence::Method;
 use std::alloc::{AllocError, Global};
 use std::sync::atomic::Ordering;

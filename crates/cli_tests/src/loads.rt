@@ -1,7 +1,7 @@
 //! A fake for loads: it keeps the plan, and returns a fixed answer.
 
 use cli::{LoadFailure, LoadFault, LoadOutcome};
-use command_line::LoadPlan;
+use commands::LoadPlan;
 use driver::DriverFault;
 use load_run::LoadError;
 use std::alloc::Global;

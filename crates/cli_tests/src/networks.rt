@@ -3,7 +3,7 @@
 use crate::crawlers::FakeCrawler;
 use budget::Refusal;
 use client::{Answer, Fetched, Names, Network, NetworkFault};
-use crawl_input::CrawlOptions;
+use commands::CrawlOptions;
 use exchange::{Done, Fault, Job};
 use persistence::{Facts, Framing, Method, Version};
 use std::alloc::{AllocError, Global};

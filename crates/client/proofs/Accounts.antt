@@ -20,8 +20,8 @@ use Rattle.client.specs.Steps.{HasJob, IsEndOf, IsOfResult, IsResultOf, want_of}
 use Rattle.client.specs.Written.{AreWhole, AreWritten, Counts, OutputShown, PutsAs, TakesResult, TakesShown, Written, WritesResult, has_failed, tally_of, text_of, url_in_flight, url_written, urls_in_flight, urls_written}
 use Rattle.client.specs.declared.crawl.in_flight.InFlight.{InFlight}
 use Rattle.client.specs.declared.crawl.in_flight.Tally.{Tally}
-use Rattle.crawl_input.specs.declared.options.CrawlFlags.{CrawlFlags}
-use Rattle.crawl_input.specs.declared.options.CrawlOptions.{CrawlOptions}
+use Rattle.commands.specs.declared.crawl_options.CrawlFlags.{CrawlFlags}
+use Rattle.commands.specs.declared.crawl_options.CrawlOptions.{CrawlOptions}
 
 -- one more line is written, or not whole
 pub lines_more : (lines : List Written) (line : Written) (first mid new : Stream) (fault : Option StreamFault) → AreWhole lines first mid → PutsAs mid new line.text fault

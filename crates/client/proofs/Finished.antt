@@ -26,8 +26,8 @@ use Rattle.client.specs.declared.crawl.fault.CrawlFault.{CrawlFault}
 use Rattle.client.specs.declared.crawl.fault.CrawlFault.TheVariants as faults
 use Rattle.client.specs.declared.crawl.fault.NetworkFault.{NetworkFault}
 use Rattle.client.specs.declared.crawl.in_flight.InFlight.{InFlight}
-use Rattle.crawl_input.specs.declared.options.CrawlFlags.{CrawlFlags}
-use Rattle.crawl_input.specs.declared.options.CrawlOptions.{CrawlOptions}
+use Rattle.commands.specs.declared.crawl_options.CrawlFlags.{CrawlFlags}
+use Rattle.commands.specs.declared.crawl_options.CrawlOptions.{CrawlOptions}
 use Rattle.client.proofs.FileLines.{first_in}
 use Rattle.client.proofs.Positions.{at_takes}
 use Rattle.client.proofs.Taken.{none_all, whole_all}

@@ -13,14 +13,14 @@ use Rattle.streams.specs.Streams.{Stream}
 use Rattle.client.specs.Crawling.{AreAccounted, CrawlGiven, IsAt, queue_given}
 use Rattle.client.specs.FileLines.{nothing_read}
 use Rattle.client.specs.Lines.{Text}
-use Rattle.crawl_input.specs.Urls.{IsBadText}
+use Rattle.commands.specs.Urls.{IsBadText}
 use Rattle.client.specs.Reading.{QueueShown, Reads, TakesOut}
 use Rattle.client.specs.Results.{AreNumbered, HaveNumbers}
 use Rattle.client.specs.Steps.{HasJob, IsEndOf, IsJobOf, IsOfResult}
 use Rattle.client.specs.Written.{AreWritten, BeginsAll, OutputShown, TakesShown, WritesBad, tally_of, url_in_flight, urls_in_flight, urls_written}
 use Rattle.client.specs.declared.crawl.in_flight.InFlight.{InFlight}
-use Rattle.crawl_input.specs.declared.options.CrawlFlags.{CrawlFlags}
-use Rattle.crawl_input.specs.declared.options.CrawlOptions.{CrawlOptions}
+use Rattle.commands.specs.declared.crawl_options.CrawlFlags.{CrawlFlags}
+use Rattle.commands.specs.declared.crawl_options.CrawlOptions.{CrawlOptions}
 use Rattle.client.proofs.Accounts.{among_rest, first_of, have_jobs_on, lines_more, lines_on, takes_all, tally_more, urls_more}
 use Rattle.client.proofs.FileLines.{read_none, read_same, reads_after}
 use Rattle.client.proofs.Numbers.{more_numbered, none_numbered}

@@ -11,12 +11,12 @@ use Rattle.conn_key.specs.Hosts.{Hosts}
 use Rattle.streams.specs.declared.stream_fault.StreamFault.TheVariants.{Memory, Read, Write}
 use Rattle.client.specs.Crawling.{IsAtBadUrl, LeavesUrls}
 use Rattle.client.specs.Hosts.{AreInUse, KeepsInUse, is_in_use}
-use Rattle.crawl_input.specs.Given.{url_text, url_texts}
+use Rattle.commands.specs.Given.{url_text, url_texts}
 use Rattle.client.specs.Lines.{Text}
 use Rattle.client.specs.FileLines.{LinesShown, TakesLine}
 use Rattle.client.specs.Reading.{AddsUrl, QueueShown, Reads, TakesOut, url_queued, urls_queued}
 use Rattle.client.specs.Results.{HaveNumbers}
-use Rattle.crawl_input.specs.Urls.{IsBadText}
+use Rattle.commands.specs.Urls.{IsBadText}
 use Rattle.client.specs.declared.crawl.route.Route.TheVariants.{Bad}
 use Rattle.client.specs.Windows.{Begins, BeginsOrWaits, Waits}
 use Rattle.client.specs.Steps.{IsJobOf}
@@ -26,9 +26,9 @@ use Rattle.client.specs.declared.crawl.fault.CrawlFault.TheVariants as faults
 use Rattle.client.specs.declared.crawl.in_flight.InFlight.{InFlight}
 use Rattle.client.specs.declared.crawl.queued.Queued.{Queued}
 use Rattle.client.specs.declared.crawl.window.Window.{Window}
-use Rattle.crawl_input.specs.declared.options.CrawlOptions.{CrawlOptions}
-use Rattle.crawl_input.specs.declared.options.UrlFile.TheVariants as files
-use Rattle.crawl_input.specs.declared.url.CrawlUrl.{CrawlUrl}
+use Rattle.commands.specs.declared.crawl_options.CrawlOptions.{CrawlOptions}
+use Rattle.commands.specs.declared.crawl_options.UrlFile.TheVariants as files
+use Rattle.commands.specs.declared.url.CrawlUrl.{CrawlUrl}
 use Rattle.client.proofs.FileLines.{read_same, reads_after, reads_line, reads_nothing}
 use Rattle.client.proofs.Numbers.{one_numbered}
 use Rattle.client.proofs.Places.{in_use_more, in_use_on}

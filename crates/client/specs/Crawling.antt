@@ -8,12 +8,12 @@ use Rattle.run_loop.specs.Taking.{JobResult}
 use Rattle.streams.specs.Streams.{Stream}
 use Rattle.client.specs.Faults.{CanEnd, line_fault}
 use Rattle.client.specs.FileLines.{AreFirst, HasNoLine, ReadsFile, nothing_read, urls_in}
-use Rattle.crawl_input.specs.Given.{url_texts}
+use Rattle.commands.specs.Given.{url_texts}
 use Rattle.client.specs.Lines.{Text}
 use Rattle.client.specs.Reading.{QueueShown}
 use Rattle.client.specs.Results.{AreNumbered, job_numbers}
 use Rattle.streams.specs.declared.stream_fault.StreamFault.TheVariants.{Read}
-use Rattle.crawl_input.specs.Urls.{IsBadText}
+use Rattle.commands.specs.Urls.{IsBadText}
 use Rattle.client.specs.Steps.{HasCrawled, HasJob, IsOfResult, HasRun}
 use Rattle.client.specs.Written.{Written, OutputShown, AreWritten, tally_of, urls_in_flight, urls_written}
 use Rattle.client.specs.declared.crawl.Crawl.{Crawl}
@@ -23,9 +23,9 @@ use Rattle.client.specs.declared.crawl.Step.TheVariants as steps
 use Rattle.client.specs.declared.crawl.in_flight.InFlight.{InFlight}
 use Rattle.client.specs.declared.crawl.fault.CrawlFault.{CrawlFault}
 use Rattle.client.specs.declared.crawl.fault.CrawlFault.TheVariants as faults
-use Rattle.crawl_input.specs.declared.options.CrawlOptions.{CrawlOptions}
-use Rattle.crawl_input.specs.declared.options.UrlFile.{UrlFile}
-use Rattle.crawl_input.specs.declared.options.UrlFile.TheVariants as files
+use Rattle.commands.specs.declared.crawl_options.CrawlOptions.{CrawlOptions}
+use Rattle.commands.specs.declared.crawl_options.UrlFile.{UrlFile}
+use Rattle.commands.specs.declared.crawl_options.UrlFile.TheVariants as files
 
 -- the input of a crawl: its options, its first URLs, the kind of the file that has more, and the bytes of that file, if
 -- they are known

@@ -4,7 +4,7 @@ use Rattle.streams.specs.declared.stream_fault.StreamFault.{StreamFault}
 use Rattle.streams.specs.declared.stream_fault.StreamFault.TheVariants.{Read}
 use Rattle.client.specs.declared.crawl.fault.CrawlFault.{CrawlFault}
 use Rattle.client.specs.declared.crawl.fault.CrawlFault.TheVariants as faults
-use Rattle.crawl_input.specs.declared.options.CrawlOptions.{CrawlOptions}
+use Rattle.commands.specs.declared.crawl_options.CrawlOptions.{CrawlOptions}
 
 -- the fault of a line that could not be written, if the fault is of one
 abbrev pub line_fault : Option CrawlFault → Option StreamFault

@@ -1,7 +1,7 @@
 -- The targets of URLs.
 use Rattle.std.specs.Prelude.{ℕ, List}
 use Rattle.conn_key.specs.Target.{GivesTarget}
-use Rattle.crawl_input.specs.Urls.{IsBadText}
+use Rattle.commands.specs.Urls.{IsBadText}
 use Rattle.client.specs.declared.crawl.route.Route.{Route}
 use Rattle.client.specs.declared.crawl.route.Route.TheVariants.{To, Bad}
 

@@ -4,16 +4,16 @@ use Rattle.std.specs.List.Sorted.{IsPermutation}
 use Rattle.streams.specs.Streams.{Stream, OneMoreFailed}
 use Rattle.streams.specs.declared.stream_fault.StreamFault.TheVariants.{Read}
 use Rattle.client.specs.FileLines.{KnowsEnd, LinesShown, ReadsFile, lines_shown}
-use Rattle.crawl_input.specs.Given.{url_texts}
+use Rattle.commands.specs.Given.{url_texts}
 use Rattle.client.specs.Lines.{Text}
-use Rattle.crawl_input.specs.Urls.{IsBadText}
+use Rattle.commands.specs.Urls.{IsBadText}
 use Rattle.client.specs.declared.crawl.fault.CrawlFault.{CrawlFault}
 use Rattle.client.specs.declared.crawl.fault.CrawlFault.TheVariants as faults
 use Rattle.client.specs.declared.crawl.queue.Queue.{Queue}
 use Rattle.client.specs.declared.crawl.queued.Queued.{Queued}
-use Rattle.crawl_input.specs.declared.options.CrawlOptions.{CrawlOptions}
-use Rattle.crawl_input.specs.declared.options.UrlFile.{UrlFile}
-use Rattle.crawl_input.specs.declared.options.UrlFile.TheVariants as files
+use Rattle.commands.specs.declared.crawl_options.CrawlOptions.{CrawlOptions}
+use Rattle.commands.specs.declared.crawl_options.UrlFile.{UrlFile}
+use Rattle.commands.specs.declared.crawl_options.UrlFile.TheVariants as files
 
 -- a queue of URLs: the options, the kind of file, the unread URLs among the words, the unread lines of the file, and the
 -- URLs that were read, in order; and the number of the next transfer

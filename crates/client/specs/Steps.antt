@@ -6,10 +6,10 @@ use Rattle.conn_log.specs.declared.entry.Want.{Want}
 use Rattle.exchange.specs.declared.job.Job.{Job}
 use Rattle.run_loop.specs.Taking.{JobResult}
 use Rattle.client.specs.Lines.{Text}
-use Rattle.crawl_input.specs.Urls.{IsBadText}
+use Rattle.commands.specs.Urls.{IsBadText}
 use Rattle.client.specs.Written.{Written}
 use Rattle.client.specs.declared.crawl.in_flight.InFlight.{InFlight}
-use Rattle.crawl_input.specs.declared.options.CrawlOptions.{CrawlOptions}
+use Rattle.commands.specs.declared.crawl_options.CrawlOptions.{CrawlOptions}
 
 -- the request to the cache for the transfer of that number, with the limits of the options
 abbrev pub want_of : CrawlOptions → ℕ → Want

@@ -9,7 +9,7 @@ use Rattle.client.specs.declared.crawl.in_flight.InFlight.{InFlight}
 use Rattle.client.specs.declared.crawl.queue.Queue.{Queue}
 use Rattle.client.specs.declared.crawl.queued.Queued.{Queued}
 use Rattle.client.specs.declared.crawl.window.Window.{Window}
-use Rattle.crawl_input.specs.declared.options.CrawlOptions.{CrawlOptions}
+use Rattle.commands.specs.declared.crawl_options.CrawlOptions.{CrawlOptions}
 
 -- the transfer of that URL begins, with its job and the next number
 pub record Begins (options : CrawlOptions) (url : Text) (number next : ℕ) (old new : Window) : Type 0 where

@@ -16,7 +16,7 @@ use Rattle.client.specs.Results.{TakesAll}
 use Rattle.client.specs.declared.crawl.in_flight.InFlight.{InFlight}
 use Rattle.client.specs.declared.crawl.in_flight.Tally.{Tally}
 use Rattle.client.specs.declared.crawl.progress.Progress.{Progress}
-use Rattle.crawl_input.specs.declared.options.CrawlFlags.{CrawlFlags}
+use Rattle.commands.specs.declared.crawl_options.CrawlFlags.{CrawlFlags}
 
 -- a line: its URL, the result of its transfer, or none if the URL is bad, and its text
 pub record Written : Type 0 where

@@ -39,7 +39,7 @@ pub(crate) mod timer;
 pub(crate) mod window;
 
 use bundle::MOST_HOSTS;
-use crawl_input::{CrawlOptions, CrawlUrl, Resolved, UrlFile};
+use commands::{CrawlOptions, CrawlUrl, Resolved, UrlFile};
 use crawler::Crawler;
 use exchange::Job;
 use fault::{CrawlFault, NetworkFault};

@@ -5,9 +5,9 @@ use Rattle.std.specs.List.{Any}
 use Rattle.std.specs.Global.{Global}
 use Rattle.std.proofs.lemmas.List.{get_or-append-add, length-append, map-append, map_more, reverse-append}
 use Rattle.clap.specs.Words.{Text}
-use Rattle.crawl_input.specs.Given.{url_text, url_texts}
-use Rattle.crawl_input.specs.declared.url.CrawlUrl.{CrawlUrl}
-use Rattle.crawl_input.specs.Urls.{IsBadUrl}
+use Rattle.commands.specs.Given.{url_text, url_texts}
+use Rattle.commands.specs.declared.url.CrawlUrl.{CrawlUrl}
+use Rattle.commands.specs.Urls.{IsBadUrl}
 use Rattle.command_line.specs.Refusals.{IsWhy}
 use Rattle.command_line.specs.declared.refusal.Refusal.{Refusal}
 use Rattle.command_line.specs.declared.refusal.Refusal.TheVariants.{Memory, Wrong}

@@ -5,7 +5,7 @@ use Rattle.command_line.specs.CommandLine.{Asks, PlansAudit, PlansGet, PlansScri
 use Rattle.command_line.specs.GetPlans.{plan_file}
 use Rattle.command_line.specs.Inputs.{asked_file, name_of}
 use Rattle.command_line.specs.declared.audit_words.AuditWords.{AuditWords}
-use Rattle.command_line.specs.declared.get_plan.CrawlPlan.{CrawlPlan}
+use Rattle.commands.specs.declared.crawl_plan.CrawlPlan.{CrawlPlan}
 use Rattle.command_line.specs.declared.script_words.ScriptWords.{ScriptWords}
 use Rattle.command_line.specs.declared.request.Request.{Request}
 use Rattle.command_line.specs.declared.request.Request.TheVariants as requests

@@ -9,7 +9,7 @@ use Rattle.std.specs.declared.net.ip_addr.IpAddr.TheVariants as Ip
 use Rattle.std.specs.declared.net.ipv6_addr.Ipv6Addr.{Ipv6Addr}
 use Rattle.std.proofs.lemmas.List.{append_cancel_right, length-map, get_or-map}
 use Rattle.clap.specs.Words.{Text}
-use Rattle.crawl_input.specs.declared.resolved.Resolved.{Resolved}
+use Rattle.commands.specs.declared.resolved.Resolved.{Resolved}
 use Rattle.socket.specs.Hosts.{in_brackets}
 use Rattle.command_line.specs.Resolving.{AreResolved, IsAddressText, IsNoResolve, Resolves, cut_at, host_said, is_colon, resolve_said}
 use Rattle.command_line.specs.Numbers.{whole_in}

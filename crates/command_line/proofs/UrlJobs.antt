@@ -11,11 +11,12 @@ use Rattle.conn_key.specs.Target.{GivesTarget}
 use Rattle.conn_key.specs.declared.site.Site.{Site}
 use Rattle.conn_key.specs.declared.target.Target.{Target}
 use Rattle.exchange.specs.declared.job.Job.{Job}
-use Rattle.crawl_input.specs.Urls.{IsBadUrl, IsPrintable}
+use Rattle.commands.specs.Urls.{IsBadUrl, IsPrintable}
 use Rattle.command_line.specs.Refusals.{IsWhy}
-use Rattle.command_line.specs.LoadUrls.{AreBadUrls, ArePlannedUrls, AreUrlJobs, IsUrlJob, url_job}
-use Rattle.command_line.specs.Numbering.{AreNumbered}
-use Rattle.command_line.specs.declared.load_measured.MeasuredFlags.{MeasuredFlags}
+use Rattle.command_line.specs.LoadUrls.{AreBadUrls, ArePlannedUrls, AreUrlJobs, IsUrlJob}
+use Rattle.commands.specs.LoadJob.{url_job}
+use Rattle.commands.specs.Numbering.{AreNumbered}
+use Rattle.commands.specs.declared.load_settings.LoadFlags.{LoadFlags}
 use Rattle.command_line.specs.declared.refusal.Refusal.{Refusal}
 use Rattle.command_line.specs.declared.refusal.Refusal.TheVariants.{Memory, Wrong}
 
@@ -25,14 +26,14 @@ sites_with sites [] = sites
 sites_with sites (job ∷ jobs) = sites_with (with_site sites (site_of job.target)) jobs
 
 -- these URLs have their jobs, and these are their sites
-pub record UrlJobsSoFar (flags : MeasuredFlags) (urls : List Text) (jobs : List Job) (sites : List Site) : Type 0 where
+pub record UrlJobsSoFar (flags : LoadFlags) (urls : List Text) (jobs : List Job) (sites : List Site) : Type 0 where
   pub few : length jobs ≤ 8
   pub one_each : length jobs ≡ length urls
   pub are_jobs : AreUrlJobs flags [] urls jobs
   pub sites_are : sites ≡ sites_with [] jobs
 
 -- one more job
-jobs-more : (flags : MeasuredFlags) (sites : List Site) (urls : List Text) (jobs : List Job) (url : Text) (job : Job)
+jobs-more : (flags : LoadFlags) (sites : List Site) (urls : List Text) (jobs : List Job) (url : Text) (job : Job)
     → AreUrlJobs flags sites urls jobs → IsUrlJob flags (sites_with sites jobs) url job → AreUrlJobs flags sites (urls ++ url ∷ []) (jobs ++ job ∷ [])
 jobs-more flags sites [] [] url job so_far one = (one, tt)
 jobs-more flags sites [] (j ∷ jobs) url job so_far one = absurd so_far
@@ -44,11 +45,11 @@ sites-more : (sites : List Site) (jobs : List Job) (job : Job) → sites_with si
 sites-more sites [] job = refl
 sites-more sites (j ∷ jobs) job = sites-more (with_site sites (site_of j.target)) jobs job
 
-pub no-jobs : (flags : MeasuredFlags) → UrlJobsSoFar flags [] [] []
+pub no-jobs : (flags : LoadFlags) → UrlJobsSoFar flags [] [] []
 no-jobs flags = record { few = omega arith; one_each = refl; are_jobs = tt; sites_are = refl }
 
 -- the job of a target that a URL gives
-one-job : (flags : MeasuredFlags) (sites : List Site) (url : Text) (site : ℕ) (target : Target) (job : Job)
+one-job : (flags : LoadFlags) (sites : List Site) (url : Text) (site : ℕ) (target : Target) (job : Job)
     → IsPrintable url × GivesTarget url target → site ≡ index_or_next sites (site_of target) → job ≡ url_job flags site target
     → IsUrlJob flags sites url job
 one-job flags sites url site target job gives at is =
@@ -56,7 +57,7 @@ one-job flags sites url site target job gives at is =
     record { printable = gives.0; target = gives.1; is_job = ap (λ n. url_job flags n target) at } in
     subst (λ (j : Job). IsUrlJob flags sites url j) (sym is) made
 
-pub url-jobs-more : (flags : MeasuredFlags) (urls : List Text) (jobs : List Job) (old new : List Site) (url : Text) (site : ℕ) (target : Target) (job : Job)
+pub url-jobs-more : (flags : LoadFlags) (urls : List Text) (jobs : List Job) (old new : List Site) (url : Text) (site : ℕ) (target : Target) (job : Job)
     → UrlJobsSoFar flags urls jobs old → length jobs < 8 → IsPrintable url × GivesTarget url target → site ≡ index_or_next old (site_of target)
     → job ≡ url_job flags site target → new ≡ with_site old (site_of target) → UrlJobsSoFar flags (urls ++ url ∷ []) (jobs ++ job ∷ []) new
 url-jobs-more flags urls jobs old new url site target job so_far room gives at is added =
@@ -88,7 +89,7 @@ next_site sites site = by_index (index_of sites site) refl
         (omega (arith, below), omega (arith, below))
     by_index None is = (omega arith, omega (arith, length-append sites (site ∷ [])))
 
-pub urls_numbered : (flags : MeasuredFlags) (sites : List Site) (urls : List Text) (jobs : List Job) → AreUrlJobs flags sites urls jobs → AreNumbered (length sites) jobs
+pub urls_numbered : (flags : LoadFlags) (sites : List Site) (urls : List Text) (jobs : List Job) → AreUrlJobs flags sites urls jobs → AreNumbered (length sites) jobs
 urls_numbered flags sites [] [] are = tt
 urls_numbered flags sites [] (job ∷ jobs) are = absurd are
 urls_numbered flags sites (url ∷ urls) [] are = absurd are
@@ -99,5 +100,5 @@ urls_numbered flags sites (url ∷ urls) (job ∷ jobs) are =
       subst (λ n. AreNumbered n jobs) (sym (ap (λ n. max (length sites) (n + 1)) at ∙ next.1)) (urls_numbered flags (with_site sites (site_of job.target)) urls jobs are.1),
     )
 
-pub planned_numbered : (flags : MeasuredFlags) (urls : List Text) (jobs : List Job) → ArePlannedUrls flags urls jobs → AreNumbered 0 jobs
+pub planned_numbered : (flags : LoadFlags) (urls : List Text) (jobs : List Job) → ArePlannedUrls flags urls jobs → AreNumbered 0 jobs
 planned_numbered flags urls jobs planned = urls_numbered flags [] urls jobs planned.are_jobs

@@ -12,8 +12,8 @@ use Rattle.command_line.specs.LoadPlans.{IsLoadPlanOf, IsLoadRefused}
 use Rattle.command_line.specs.OptionTable.{OptionFacts, audit_options, get_options, load_options, script_options}
 use Rattle.command_line.specs.Options.{command_app}
 use Rattle.command_line.specs.declared.audit_words.AuditWords.{AuditWords}
-use Rattle.command_line.specs.declared.get_plan.CrawlPlan.{CrawlPlan}
-use Rattle.command_line.specs.declared.load_plan.LoadPlan.{LoadPlan}
+use Rattle.commands.specs.declared.crawl_plan.CrawlPlan.{CrawlPlan}
+use Rattle.commands.specs.declared.load_plan.LoadPlan.{LoadPlan}
 use Rattle.command_line.specs.declared.script_words.ScriptWords.{ScriptWords}
 use Rattle.command_line.specs.declared.request.ErrorClass.{ErrorClass}
 use Rattle.command_line.specs.declared.request.ErrorClass.TheVariants as classes

@@ -4,24 +4,20 @@ use Rattle.std.specs.List.{All, Any}
 use Rattle.std.specs.Option.{option_map}
 use Rattle.clap.specs.Words.{Row, Text}
 use Rattle.clap.specs.Walk.{first_of}
-use Rattle.persistence.specs.declared.method.Method.{Method}
-use Rattle.persistence.specs.declared.method.Method.TheVariants.{Get, Head}
 use Rattle.conn_log.specs.Wants.{default_max_age}
 use Rattle.conn_key.specs.Target.{GivesTarget}
 use Rattle.conn_key.specs.declared.target.Target.{Target}
-use Rattle.crawl_input.specs.Given.{url_texts}
-use Rattle.crawl_input.specs.Urls.{IsBadUrl, IsPrintable}
-use Rattle.crawl_input.specs.declared.options.CrawlFlags.{CrawlFlags}
-use Rattle.crawl_input.specs.declared.options.CrawlOptions.{CrawlOptions}
+use Rattle.commands.specs.Given.{url_texts}
+use Rattle.commands.specs.Urls.{IsBadUrl, IsPrintable}
+use Rattle.commands.specs.declared.crawl_options.CrawlFlags.{CrawlFlags}
+use Rattle.commands.specs.declared.crawl_options.CrawlOptions.{CrawlOptions}
 use Rattle.command_line.specs.Inputs.{asked_file}
+use Rattle.commands.specs.LoadJob.{method_said}
 use Rattle.command_line.specs.OptionTable.{get_options}
 use Rattle.command_line.specs.Options.{flag_said, has_bad, number_said, texts_said}
 use Rattle.command_line.specs.Resolving.{AreResolved, IsNoResolve}
-use Rattle.command_line.specs.declared.get_plan.CrawlPlan.{CrawlPlan}
+use Rattle.commands.specs.declared.crawl_plan.CrawlPlan.{CrawlPlan}
 use Rattle.command_line.specs.declared.options.Takes.TheVariants.{Number, Seconds}
-
-abbrev pub method_said : Bool → Method
-method_said head = if head then Head else Get
 
 abbrev pub flags_said : List Row → CrawlFlags
 flags_said rows = record {

@@ -5,10 +5,8 @@ pub mod Refusals
 pub mod Inputs
 pub mod Resolving
 pub mod GetPlans
-pub mod LoadRanges
 pub mod LoadNumbers
 pub mod LoadUrls
-pub mod Numbering
 pub mod LoadPlans
 pub mod CommandLine
 pub mod WorkedWords

@@ -4,9 +4,9 @@ use Rattle.std.specs.Option.{option_or}
 use Rattle.clap.specs.Words.{Row}
 use Rattle.command_line.specs.OptionTable.{load_options}
 use Rattle.command_line.specs.Options.{flag_said, has_bad, is_given, is_outside, number_said}
-use Rattle.command_line.specs.declared.load_limits.LoadOptions.{LoadOptions}
-use Rattle.command_line.specs.declared.load_measured.MeasuredFlags.{MeasuredFlags}
-use Rattle.command_line.specs.declared.load_measured.MeasuredNumbers.{MeasuredNumbers}
+use Rattle.commands.specs.declared.load_limits.LoadOptions.{LoadOptions}
+use Rattle.commands.specs.declared.load_settings.LoadFlags.{LoadFlags}
+use Rattle.commands.specs.declared.load_settings.LoadNumbers.{LoadNumbers}
 use Rattle.command_line.specs.declared.options.Takes.TheVariants.{Number, Percent, Seconds}
 
 -- a URL is given, by an option or as an operand
@@ -44,7 +44,7 @@ IsNumberRefused rows = (has_bad_jobs rows ≡ true) ⊎ (has_bad load_options ro
 abbrev pub default_timeout : List Row → Option ℕ
 default_timeout rows = if has_urls rows then Some 30 else None
 
-pub record AreNumbersOf (rows : List Row) (numbers : MeasuredNumbers) : Type 0 where
+pub record AreNumbersOf (rows : List Row) (numbers : LoadNumbers) : Type 0 where
   pub connections_is : numbers.connections ≡ number_said (codes "connections") Number 1 1024 rows
   pub seconds_is : numbers.seconds ≡ number_said (codes "seconds") Seconds 1 86400 rows
   pub warmup_is : numbers.warmup ≡ unwrap_or (number_said (codes "warmup") Seconds 0 3600 rows) 0
@@ -53,7 +53,7 @@ pub record AreNumbersOf (rows : List Row) (numbers : MeasuredNumbers) : Type 0 w
   pub fail_above_is : numbers.fail_above ≡ number_said (codes "fail-above") Percent 0 10000 rows
 
 -- the flags
-pub record AreFlagsOf (rows : List Row) (flags : MeasuredFlags) : Type 0 where
+pub record AreFlagsOf (rows : List Row) (flags : LoadFlags) : Type 0 where
   pub head_is : flags.head ≡ flag_said (codes "head") rows
   pub forbid_reuse_is : flags.forbid_reuse ≡ flag_said (codes "forbid-reuse") rows
   pub fail_is : flags.fail ≡ flag_said (codes "fail") rows

@@ -9,7 +9,7 @@ use Rattle.command_line.specs.LoadUrls.{AreBadUrls, ArePlannedUrls, urls_said}
 use Rattle.command_line.specs.OptionTable.{OptionFacts, load_options}
 use Rattle.command_line.specs.Options.{is_given, is_used, texts_said}
 use Rattle.command_line.specs.Resolving.{AreResolved, IsNoResolve}
-use Rattle.command_line.specs.declared.load_plan.LoadPlan.{LoadPlan}
+use Rattle.commands.specs.declared.load_plan.LoadPlan.{LoadPlan}
 
 -- two options exclude each other: URLs and `--sites`, or `--seconds` and `--jobs`
 abbrev pub has_conflict : List Row → Bool

@@ -5,10 +5,6 @@ use Rattle.std.specs.Option.{option_and_then, option_map}
 use Rattle.clap.specs.Words.{Text}
 use Rattle.streams.specs.Words.{number}
 
--- a number in a range
-abbrev pub IsWithin : ℕ → ℕ → ℕ → Type 0
-IsWithin least greatest n = (least ≤ n) × (n ≤ greatest)
-
 abbrev pub if_in : ℕ → ℕ → ℕ → Option ℕ
 if_in least greatest n = if nat_le least n && nat_le n greatest then Some n else None
 

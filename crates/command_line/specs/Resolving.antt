@@ -7,7 +7,7 @@ use Rattle.std.specs.Net.Socket.{socket_ip, IsPlainSocket}
 use Rattle.std.specs.declared.net.ip_addr.IpAddr.{IpAddr}
 use Rattle.clap.specs.Words.{Text}
 use Rattle.socket.specs.Hosts.{IsLiteral}
-use Rattle.crawl_input.specs.declared.resolved.Resolved.{Resolved}
+use Rattle.commands.specs.declared.resolved.Resolved.{Resolved}
 use Rattle.command_line.specs.Numbers.{whole_in}
 use Rattle.command_line.specs.declared.resolve.ResolveText.{ResolveText}
 

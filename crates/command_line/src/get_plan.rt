@@ -3,7 +3,6 @@
 ghost use Rattle.std.specs.Prelude.{◌≡◌, IfErr, IfOk};
 ghost use Rattle.clap.specs.Words.{found_of, rows_of};
 ghost use Rattle.command_line.specs.GetPlans.{AreOptionsOf, IsGetRefused, IsPlanOf, flags_said};
-ghost use Rattle.command_line.specs.GetPlans.{method_said};
 ghost use Rattle.command_line.specs.Refusals.{IsWhy};
 
 use crate::get_urls::{checked_urls, unchecked_urls};
@@ -15,27 +14,14 @@ use crate::refusal::{Refusal, wrong};
 use crate::resolve::given_hosts;
 use crate::values::{check_numbers, count, flag, number, text, texts};
 use clap::ArgMatches;
+use commands::{CrawlFlags, CrawlOptions, CrawlPlan, method_of};
 use conn_log::DEFAULT_MAX_AGE;
-use crawl_input::{CrawlFlags, CrawlOptions, CrawlUrl, Resolved};
-use persistence::Method;
 use std::alloc::Global;
 
 /// The message for words that name neither a URL nor a file.
 const NO_URL: &str = "\
 the following required arguments were not provided:
   <URL>...";
-
-/// The plan of a `get`.
-#[derive(Drop)]
-pub struct CrawlPlan {
-    pub options: CrawlOptions,
-    /// The URLs among the words, which come first.
-    pub urls: Vec<CrawlUrl>,
-    /// The file with more of them; `-` is standard input.
-    pub file: Option<String>,
-    /// The addresses that `--resolve` gives for hosts, which are not looked up.
-    pub resolved: Vec<Resolved>,
-}
 
 /// Makes the plan of the words after `get`.
 ///
@@ -83,13 +69,6 @@ fn options_of(given: &ArgMatches<'_>) -> CrawlOptions
         timeout: count(given, &GET_TIMEOUT).unwrap_or(30),
         flags: flags_of(given),
     }
-}
-
-/// Returns the method of the requests.
-pub(crate) fn method_of(head: bool) -> Method
-    ensures { result ≡ method_said head }
-{
-    if head { Method::Head } else { Method::Get }
 }
 
 // Returns the flags of the words.

@@ -2,14 +2,14 @@
 
 ghost use Rattle.std.specs.Prelude.{◌≡◌, map, string_bytes, IfErr, IfOk, OnOk};
 ghost use Rattle.std.specs.List.{All, Any};
-ghost use Rattle.crawl_input.specs.Given.{url_texts};
-ghost use Rattle.crawl_input.specs.Urls.{IsBadUrl};
+ghost use Rattle.commands.specs.Given.{url_texts};
+ghost use Rattle.commands.specs.Urls.{IsBadUrl};
 ghost use Rattle.command_line.specs.GetPlans.{IsGoodUrl};
 ghost use Rattle.command_line.specs.Refusals.{IsWhy};
 
 use crate::refusal::Refusal;
 use crate::url_target::checked_target;
-use crawl_input::CrawlUrl;
+use commands::CrawlUrl;
 use std::alloc::{AllocError, Global};
 
 /// Returns the URLs of a crawl, each with its target.

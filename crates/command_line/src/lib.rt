@@ -3,15 +3,12 @@
 #![tactic(auto)]
 
 mod audit_words;
-mod build;
 mod get_plan;
 mod get_urls;
 mod help;
 mod input;
-mod load_limits;
 mod load_measured;
 mod load_numbers;
-mod load_plan;
 mod load_planning;
 mod load_urls;
 mod memory;
@@ -28,14 +25,8 @@ mod words;
 mod worked;
 
 pub use audit_words::AuditWords;
-pub use build::{BUILD, VERSION};
-pub use get_plan::CrawlPlan;
 pub use input::Input;
-pub use load_limits::LoadOptions;
-pub use load_measured::{MeasuredFlags, MeasuredNumbers};
 pub use load_numbers::load_options;
-pub use load_plan::LoadPlan;
-pub use load_urls::job_of;
 pub use memory::{ArgsAlloc, CountedArgsAlloc};
 pub use refusal::Refusal;
 pub use request::{ErrorClass, Request};

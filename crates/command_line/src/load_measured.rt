@@ -11,29 +11,13 @@ use crate::options::{
 };
 use crate::values::{count, flag};
 use clap::ArgMatches;
-
-/// Numbers of a load, each in its range.
-#[derive(Clone, Copy, Debug)]
-pub struct MeasuredNumbers {
-    /// Maximum number of requests in flight; if None, one for each thread.
-    pub connections: Option<u32>,
-    /// Duration in seconds, after the warm-up; if None, the load ends with its last request.
-    pub seconds: Option<u32>,
-    /// Duration of the warm-up in seconds, which is in no figure.
-    pub warmup: u32,
-    /// Requests due per second; if None, each is due at once.
-    pub rate: Option<u32>,
-    /// Time limit of a request in seconds.
-    pub timeout: Option<u32>,
-    /// Highest share of failed requests without status 5, in hundredths of a percent.
-    pub fail_above: Option<u32>,
-}
+use commands::{LoadFlags, LoadNumbers};
 
 /// Returns the numbers of a load other than the six.
-pub(crate) fn numbers_of(given: &ArgMatches<'_>) -> MeasuredNumbers
+pub(crate) fn numbers_of(given: &ArgMatches<'_>) -> LoadNumbers
     ensures { AreNumbersOf (rows_of (found_of given.now)) result }
 {
-    MeasuredNumbers {
+    LoadNumbers {
         connections: count(given, &CONNECTIONS),
         seconds: count(given, &SECONDS),
         warmup: count(given, &WARMUP).unwrap_or(0),
@@ -50,28 +34,11 @@ fn default_timeout(given: &ArgMatches<'_>) -> Option<u32>
     if has_urls(given) { Some(30) } else { None }
 }
 
-/// Flags of a load.
-#[derive(Clone, Copy, Debug)]
-pub struct MeasuredFlags {
-    /// Sends HEAD instead of GET.
-    pub head: bool,
-    /// Reuses no connection.
-    pub forbid_reuse: bool,
-    /// Counts a status of 400 or above as failed.
-    pub fail: bool,
-    /// Prints JSON instead of the report.
-    pub json: bool,
-    /// Prints neither summary nor progress.
-    pub quiet: bool,
-    /// Prints no progress.
-    pub no_progress: bool,
-}
-
 /// Returns the flags of the words.
-pub(crate) fn flags_of(given: &ArgMatches<'_>) -> MeasuredFlags
+pub(crate) fn flags_of(given: &ArgMatches<'_>) -> LoadFlags
     ensures { AreFlagsOf (rows_of (found_of given.now)) result }
 {
-    MeasuredFlags {
+    LoadFlags {
         head: flag(given, &HEAD),
         forbid_reuse: flag(given, &FORBID_REUSE),
         fail: flag(given, &FAIL),

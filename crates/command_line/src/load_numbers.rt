@@ -6,7 +6,6 @@ ghost use Rattle.command_line.specs.LoadNumbers.{AreLoadOptions, IsNumberRefused
 ghost use Rattle.command_line.specs.LoadNumbers.{has_urls, kept_for, most_jobs};
 ghost use Rattle.command_line.specs.Refusals.{IsWhy};
 
-use crate::load_limits::LoadOptions;
 use crate::options;
 use crate::options::{
     CONNECTS, HOST_LIMIT, JOBS, OptionRow, SECONDS, SITES, TOTAL, URL, URLS, WORKERS,
@@ -14,6 +13,7 @@ use crate::options::{
 use crate::refusal::Refusal;
 use crate::values::{check_number, check_numbers, count, is_used};
 use clap::ArgMatches;
+use commands::LoadOptions;
 use std::alloc::Global;
 
 /// Maximum number of jobs with URLs or seconds, and without.

@@ -11,7 +11,6 @@ ghost use Rattle.command_line.specs.Refusals.{IsWhy};
 
 use crate::load_measured::{flags_of, numbers_of};
 use crate::load_numbers::load_options;
-use crate::load_plan::LoadPlan;
 use crate::load_urls::{load_urls, url_jobs};
 use crate::options;
 use crate::options::{JOBS, LOAD_PICTURE, OptionRow, SECONDS, SITES, TRACE, URL, URLS};
@@ -19,6 +18,7 @@ use crate::refusal::{Refusal, wrong};
 use crate::resolve::given_hosts;
 use crate::values::{is_used, text, text_count};
 use clap::ArgMatches;
+use commands::LoadPlan;
 use std::alloc::Global;
 
 /// Makes the plan of the words after `load`.

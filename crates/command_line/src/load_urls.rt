@@ -2,20 +2,18 @@
 
 ghost use Rattle.std.specs.Prelude.{◌≡◌, map, string_bytes, IfErr, IfOk};
 ghost use Rattle.conn_key.specs.Target.{GivesTarget};
-ghost use Rattle.crawl_input.specs.Urls.{IsBadUrl, IsPrintable};
+ghost use Rattle.commands.specs.Urls.{IsBadUrl, IsPrintable};
 ghost use Rattle.clap.specs.Words.{found_of, rows_of};
-ghost use Rattle.command_line.specs.LoadUrls.{AreBadUrls, ArePlannedUrls, url_job, urls_said};
+ghost use Rattle.command_line.specs.LoadUrls.{AreBadUrls, ArePlannedUrls, urls_said};
 ghost use Rattle.command_line.specs.Refusals.{IsWhy};
 
-use crate::get_plan::method_of;
-use crate::load_measured::MeasuredFlags;
 use crate::options::{URL, URLS};
 use crate::refusal::{Refusal, wrong};
 use crate::url_target::checked_target;
 use crate::values::add_texts;
 use clap::ArgMatches;
-use conn_key::{Sites, Target};
-use conn_log::Want;
+use commands::{LoadFlags, job_of};
+use conn_key::Sites;
 use exchange::Job;
 use std::alloc::{AllocError, Global};
 
@@ -48,7 +46,7 @@ pub(crate) fn url_jobs(
     alloc: Global,
     urls: &[String],
     named: usize,
-    flags: MeasuredFlags,
+    flags: LoadFlags,
 ) -> Result<Vec<Job>, Refusal>
     ensures jobs { IfOk result (λ jobs.
         ArePlannedUrls flags (map string_bytes urls.now) jobs.items) }
@@ -79,20 +77,5 @@ fn option_at(index: usize, named: usize) -> &'static str {
         "--url <URL>"
     } else {
         "[URL]..."
-    }
-}
-
-/// Returns the job of a target.
-pub fn job_of(site: u32, target: Target, flags: MeasuredFlags) -> Job
-    ensures { result ≡ url_job flags site target }
-{
-    Job {
-        site,
-        want: Want {
-            forbid_reuse: flags.forbid_reuse,
-            ..Want::of(0)
-        },
-        method: method_of(flags.head),
-        target,
     }
 }

@@ -7,7 +7,7 @@ use crate::options::OptionRow;
 use crate::words::subcommand;
 use clap::Error;
 use clap::error::ErrorKind;
-use crawl_input::{is_unprintable, write_escaped};
+use commands::{is_unprintable, write_escaped};
 use std::alloc::{AllocError, Global};
 use std::fmt;
 

@@ -10,9 +10,8 @@ ghost use Rattle.command_line.specs.CommandLine.{said, said_as, said_in, word_fa
 ghost use Rattle.command_line.specs.Refusals.{IsWhy};
 
 use crate::audit_words::{AuditWords, audit_words};
-use crate::get_plan::{CrawlPlan, get_plan};
+use crate::get_plan::get_plan;
 use crate::input::Input;
-use crate::load_plan::LoadPlan;
 use crate::load_planning::load_plan;
 use crate::options::{get_options, load_options};
 use crate::refusal::{Refusal, error_text, usage_error};
@@ -20,6 +19,7 @@ use crate::script_words::{ScriptWords, script_words};
 use crate::words::{Words, not_text, parse, read_words};
 use clap::error::ErrorKind;
 use clap::{ArgMatches, Error};
+use commands::{CrawlPlan, LoadPlan};
 use std::alloc::Global;
 
 /// Request that the words make.

@@ -18,7 +18,7 @@ use crate::options::RESOLVE;
 use crate::refusal::{Refusal, wrong};
 use crate::values::texts;
 use clap::ArgMatches;
-use crawl_input::{Escaped, Resolved};
+use commands::{Escaped, Resolved};
 use std::alloc::{AllocError, Global};
 use std::net::{IpAddr, Ipv6Addr, SocketAddr};
 

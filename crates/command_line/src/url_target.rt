@@ -2,13 +2,13 @@
 
 ghost use Rattle.std.specs.Prelude.{IfErr, IfOk, OnOk};
 ghost use Rattle.conn_key.specs.Target.{GivesTarget};
-ghost use Rattle.crawl_input.specs.Urls.{IsBadUrl};
+ghost use Rattle.commands.specs.Urls.{IsBadUrl};
 ghost use Rattle.command_line.specs.GetPlans.{IsGoodUrl};
 ghost use Rattle.command_line.specs.Refusals.{IsWhy};
 
 use crate::refusal::{Refusal, wrong};
+use commands::{Escaped, UrlFault, has_unprintable, url_target};
 use conn_key::Target;
-use crawl_input::{Escaped, UrlFault, has_unprintable, url_target};
 use std::alloc::Global;
 
 /// Returns the target of a URL that is given for `option`.

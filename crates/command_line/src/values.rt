@@ -5,7 +5,7 @@ ghost use Rattle.std.specs.Prelude.{string_bytes, IfErr, IfOk, IfSome, OnOk};
 ghost use Rattle.clap.specs.Walk.{first_of};
 ghost use Rattle.clap.specs.Words.{found_of, rows_of};
 ghost use Rattle.command_line.specs.OptionTable.{facts_of};
-ghost use Rattle.command_line.specs.Numbers.{IsWithin};
+ghost use Rattle.commands.specs.LoadRanges.{IsWithin};
 ghost use Rattle.command_line.specs.Options.{flag_said, has_bad, is_bad, is_numeric};
 ghost use Rattle.command_line.specs.Options.{is_used, number_said, texts_said, value_in};
 ghost use Rattle.command_line.specs.Refusals.{IsWhy};
@@ -14,7 +14,7 @@ use crate::numbers::{hundredths_of, number_of, seconds_of};
 use crate::options::{OptionRow, Takes};
 use crate::refusal::{Refusal, wrong};
 use clap::ArgMatches;
-use crawl_input::Escaped;
+use commands::Escaped;
 use std::alloc::{AllocError, Global};
 
 /// Returns the text that is given for an option, or the first one.

@@ -10,11 +10,11 @@ ghost use Rattle.command_line.specs.CommandLine.{curlpool, faults_in, first_word
 ghost use Rattle.command_line.specs.CommandLine.{needing_a_subcommand, options_if};
 ghost use Rattle.command_line.specs.CommandLine.{read_words, rows_in};
 
-use crate::build::{BUILD, version};
 use crate::help::{AUDITS, COMMANDS, EXAMPLES, LINES, REPORT};
 use crate::options::{OptionRow, Takes, audit_options, get_options, load_options, script_options};
 use clap::error::ErrorKind;
 use clap::{Arg, ArgAction, ArgMatches, Command, Error};
+use commands::{BUILD, version};
 use std::alloc::{AllocError, Global};
 
 /// The words with which the program was started, its name first, or why they could not be had.

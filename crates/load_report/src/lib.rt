@@ -30,7 +30,7 @@ pub use failing::fails_above;
 pub use json::json_text;
 pub use picture::picture_of;
 pub use report_numbers::{
-    Bucket, Build, Connections, HostRun, IntervalLatency, IntervalReport, JobReport, Latencies,
+    Bucket, Connections, HostRun, IntervalLatency, IntervalReport, JobReport, Latencies,
     LoadReport, LoadRun, OptionValue, SaidOption,
 };
 pub use summary::Summary;

@@ -1,5 +1,7 @@
 //! The numbers of a load that has ended.
 
+use commands::Build;
+
 /// What an option of a load was given.
 #[derive(Drop)]
 pub enum OptionValue {
@@ -42,25 +44,6 @@ pub struct HostRun {
     pub host: String,
     /// How its connections were used.
     pub connections: Connections,
-}
-
-/// How the program was built that made a load.
-#[derive(Clone, Copy, Debug, PartialEq, Eq)]
-pub enum Build {
-    /// The checker has proved it.
-    Proved,
-    /// It was compiled without proofs, with run-time checks in it, so it is slower.
-    Unproved,
-}
-
-impl Build {
-    /// The name of the build.
-    pub fn name(self) -> &'static str {
-        match self {
-            Build::Proved => "proved",
-            Build::Unproved => "unproved, checked",
-        }
-    }
 }
 
 /// What is known of a load beside its figures.

@@ -1,7 +1,8 @@
 //! The summary of a load as a text.
 
 use crate::rates::per_second;
-use crate::report_numbers::{Build, Latencies, LoadReport};
+use crate::report_numbers::{Latencies, LoadReport};
+use commands::Build;
 use load_figures::{FAULT_NAMES, STATUS_NAMES};
 use std::fmt;
 

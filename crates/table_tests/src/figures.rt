@@ -2,9 +2,10 @@
 //! `load_texts.rt` has the figures of six jobs.
 
 use crate::checks::check_eq;
+use commands::Build;
 use exchange::{Answer, Done, Fault};
 use load_figures::{Figures, Outcome, outcome_of};
-use load_report::{Build, Connections, HostRun, LoadReport, LoadRun, fails_above};
+use load_report::{Connections, HostRun, LoadReport, LoadRun, fails_above};
 use persistence::{Facts, Framing, Version};
 use std::alloc::{AllocError, Global};
 use std::test::Fail;

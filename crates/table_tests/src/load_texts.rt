@@ -2,10 +2,10 @@
 
 use crate::checks::check_eq;
 use crate::figures::{six_jobs, two_hosts};
+use commands::Build;
 use load_figures::Figures;
 use load_report::{
-    Build, Connections, JobReport, Latencies, LoadReport, OptionValue, SaidOption, Summary,
-    json_text,
+    Connections, JobReport, Latencies, LoadReport, OptionValue, SaidOption, Summary, json_text,
 };
 use std::alloc::{AllocError, Global};
 

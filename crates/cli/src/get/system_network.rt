@@ -4,7 +4,7 @@ use crate::get::system_names::{SystemNames, SystemResolver};
 use budget::Limits;
 use cache::Pool;
 use client::{LookUps, LoopCrawler, Network, NetworkFault};
-use crawl_input::CrawlOptions;
+use commands::CrawlOptions;
 use futures::task::{Doorbell, Solo};
 use socket::{Addresses, PolledDial, PolledWire, SystemClock};
 use std::alloc::{AllocGlobal, Global};

@@ -2,10 +2,9 @@
 
 ghost use Rattle.std.specs.Prelude.{◌≡◌, IfOk, IfSome};
 
-use crate::file_fault::{FileAction, file_fault_text};
 use crate::loading::failure::LoadFailure;
 use crate::loading::fault::OUT_OF_MEMORY;
-use command_line::LoadPlan;
+use commands::{FileAction, LoadPlan, file_fault_text};
 use std::alloc::Global;
 use std::fs::{self, File};
 use std::io::{Error, ErrorKind};

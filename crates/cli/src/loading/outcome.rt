@@ -4,7 +4,7 @@ ghost use Rattle.std.specs.Prelude.{◌≡◌, IfOk};
 ghost use Rattle.cli.specs.LoadStatuses.{status_after};
 
 use crate::loading::failure::LoadFailure;
-use crate::status::Status;
+use commands::Status;
 use std::alloc::{AllocError, Global};
 
 /// The outcome of a load that was carried out.

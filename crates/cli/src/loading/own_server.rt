@@ -3,7 +3,7 @@
 ghost use Rattle.std.specs.Prelude.{◌≡◌, ◌<◌, ◌^◌, length, map, string_bytes, IfOk, OnOk};
 ghost use Rattle.cli.specs.LoadJobs.{AreOwnJobs, AsksOwn, IsOwnJob, own_count, own_url};
 
-use command_line::{LoadOptions, LoadPlan, MeasuredFlags, job_of};
+use commands::{LoadFlags, LoadOptions, LoadPlan, job_of};
 use conn_key::Target;
 use exchange::Job;
 use std::alloc::{AllocError, Global};
@@ -53,7 +53,7 @@ fn own_jobs(
     alloc: Global,
     count: u32,
     ports: &[u16],
-    flags: MeasuredFlags,
+    flags: LoadFlags,
 ) -> Result<Vec<Job>, AllocError>
     requires some { 0 < length ports.now }
     requires few { length ports.now < 2 ^ 32 }
@@ -69,12 +69,7 @@ fn own_jobs(
 }
 
 // Makes the request with that number.
-fn own_job(
-    alloc: Global,
-    number: u32,
-    ports: &[u16],
-    flags: MeasuredFlags,
-) -> Result<Job, AllocError>
+fn own_job(alloc: Global, number: u32, ports: &[u16], flags: LoadFlags) -> Result<Job, AllocError>
     requires some { 0 < length ports.now }
     requires few { length ports.now < 2 ^ 32 }
     ensures { IfOk result (IsOwnJob flags ports.now number) }

@@ -11,8 +11,7 @@ use crate::loading::fault::{LoadFault, OUT_OF_MEMORY};
 use crate::loading::files::{OutputFile, unwritten};
 use crate::loading::outcome::LoadOutcome;
 use crate::loading::sites::LoadSites;
-use crate::status::Status;
-use command_line::{BUILD, LoadPlan, MeasuredNumbers, VERSION};
+use commands::{BUILD, LoadNumbers, LoadPlan, Status, VERSION};
 use load_report::{
     Connections, HostRun, JobSums, LoadReport, LoadRun, OptionValue, SaidOption, Summary,
     fails_above, json_text, picture_of, report_with,
@@ -201,7 +200,7 @@ fn run_of(
 fn said_options(alloc: Global, plan: &LoadPlan) -> Result<Vec<SaidOption>, AllocError> {
     let mut said = Vec::new(alloc);
     let options = plan.options;
-    let MeasuredNumbers {
+    let LoadNumbers {
         connections,
         seconds,
         warmup,

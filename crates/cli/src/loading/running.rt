@@ -5,7 +5,7 @@ ghost use Rattle.cli.specs.LoadRuns.{IsLoadOutcomeOf, lacks_jobs, IsUnknownHost,
 ghost use Rattle.cli.specs.LoadRuns.{ReportsRun, RunsMany, jobs_planned, polled_world};
 ghost use Rattle.cli.specs.LoadRuns.{per_second, positive};
 ghost use Rattle.cli.specs.LoadSites.{AreSitesOf, AreAllBelow};
-ghost use Rattle.command_line.specs.declared.load_plan.LoadPlan.{LoadPlan};
+ghost use Rattle.commands.specs.declared.load_plan.LoadPlan.{LoadPlan};
 
 use crate::loading::failure::LoadFailure;
 use crate::loading::fault::{LoadFault, OUT_OF_MEMORY};
@@ -14,8 +14,7 @@ use crate::loading::outcome::LoadOutcome;
 use crate::loading::report::{outcome_of, report_of_load, write_picture};
 use crate::loading::sites::{LoadSites, SiteFault};
 use crate::loading::watch::LoadWatch;
-use crate::status::Status;
-use command_line::{LoadOptions, LoadPlan};
+use commands::{LoadOptions, LoadPlan, Status};
 use load_run::{LoadTimes, LoadedMany, ManyPlan, Rate, load_many};
 use std::alloc::{AllocGlobal, Global};
 use std::random::RandomSource;

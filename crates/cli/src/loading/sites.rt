@@ -5,13 +5,13 @@ ghost use Rattle.std.specs.Prelude.{IfErr, IfOk, OnOk};
 ghost use Rattle.std.specs.List.{AllZip};
 ghost use Rattle.socket.specs.declared.addresses.Addresses.{Addresses};
 ghost use Rattle.cli.specs.LoadSites.{AreAllBelow, AreSitesOf, IfUnknown, IsKnown};
-ghost use Rattle.command_line.specs.Numbering.{AreNumbered};
+ghost use Rattle.commands.specs.Numbering.{AreNumbered};
 ghost use Rattle.cli.specs.LoadSites.{IsListOf, IsPlaceOf, site_lines};
 ghost use Rattle.cli.specs.LoadSites.{IsListAt, IsUnknownAt, IsUnknownIn};
 ghost use Rattle.socket.specs.Hosts.{AddsHost};
 
+use commands::{Resolved, resolved_of};
 use conn_key::Target;
-use crawl_input::{Resolved, resolved_of};
 use exchange::Job;
 use socket::{AddressFault, Addresses, system_addresses};
 use std::alloc::{AllocError, Global};

@@ -8,7 +8,7 @@ use crate::loading::fault::{LoadFault, NO_THREAD, OUT_OF_MEMORY, POLL_FAILED};
 use crate::loading::outcome::LoadOutcome;
 use crate::loading::own_server::add_own;
 use crate::loading::running::load_sites;
-use command_line::LoadPlan;
+use commands::LoadPlan;
 use loopback_server::Server;
 use std::alloc::{AllocGlobal, Global};
 use std::io::{Error, ErrorKind};

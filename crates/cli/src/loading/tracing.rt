@@ -14,7 +14,7 @@ use crate::loading::failure::LoadFailure;
 use crate::loading::fault::{LoadFault, OUT_OF_MEMORY};
 use crate::loading::files::{OutputFile, unwritten};
 use crate::loading::sites::LoadSites;
-use command_line::LoadOptions;
+use commands::LoadOptions;
 use conn_log::Entry;
 use script_text::Limits;
 use std::alloc::{AllocError, Global};

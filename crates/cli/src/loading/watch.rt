@@ -5,7 +5,7 @@ use crate::loading::files::OutputFile;
 use crate::loading::progress::ProgressLine;
 use crate::loading::sites::LoadSites;
 use crate::loading::tracing::LoadTrace;
-use command_line::LoadPlan;
+use commands::LoadPlan;
 use conn_log::Entry;
 use load_run::{Seen, Watch};
 use std::alloc::Global;

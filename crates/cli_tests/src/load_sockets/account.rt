@@ -1,6 +1,6 @@
 //! What a report says, and what has to hold of it.
 
-use command_line::LoadOptions;
+use commands::LoadOptions;
 use std::process::Abort;
 
 /// The most sites of a load.

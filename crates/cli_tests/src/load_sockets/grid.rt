@@ -2,7 +2,7 @@
 
 use crate::load_sockets::account::account_of;
 use crate::load_sockets::running::run_words;
-use command_line::LoadOptions;
+use commands::LoadOptions;
 use rand_core::utils::NextWord;
 use rand_pcg::Pcg32;
 use std::alloc::{AllocError, AllocGlobal, Global};

@@ -5,7 +5,7 @@ ghost use Rattle.std.specs.Str.Lines.{strip_carriage_return};
 ghost use Rattle.streams.specs.Streams.{CanCount};
 ghost use Rattle.std.specs.Prelude.{string_bytes};
 ghost use Rattle.std.specs.Str.Lossy.{utf8_lossy};
-ghost use Rattle.crawl_input.specs.Urls.{IsBadLine};
+ghost use Rattle.commands.specs.Urls.{IsBadLine};
 ghost use Rattle.client.specs.FileLines.{CountsRead, HasNoLine, HasNumber, IfBad, IsClassOf};
 ghost use Rattle.client.specs.FileLines.{IsNextLine, NeedsMore, NumbersLine, ReadsFile};
 ghost use Rattle.client.specs.FileLines.{is_skipped, lines_shown, nothing_read};

@@ -3,7 +3,7 @@
 use crate::crawl::crawler::Crawler;
 use crate::crawl::fault::NetworkFault;
 use crate::crawl::names::Names;
-use crawl_input::CrawlOptions;
+use commands::CrawlOptions;
 use std::alloc::Global;
 
 /// A network, on which connections are opened, and names of hosts are looked up.

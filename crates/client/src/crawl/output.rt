@@ -12,7 +12,7 @@ use crate::crawl::json::{JsonLine, Outcome};
 use crate::crawl::line::line_text;
 use crate::crawl::progress::Progress;
 use crate::fetched::Fetched;
-use crawl_input::{CrawlFlags, Escaped};
+use commands::{CrawlFlags, Escaped};
 use exchange::Done;
 use run_loop::{Results, Span};
 use std::alloc::{AllocError, Global};

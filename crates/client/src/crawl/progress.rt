@@ -1,7 +1,7 @@
 //! The progress of a crawl.
 
 use crate::crawl::in_flight::{InFlight, Tally};
-use crawl_input::CrawlFlags;
+use commands::CrawlFlags;
 use streams::StreamFault;
 
 /// The progress of a crawl: its transfers in flight, its tally, and its fault.

@@ -14,9 +14,9 @@ use crate::crawl::placed::Placed;
 use crate::crawl::queued::Queued;
 use crate::crawl::route::Route;
 use crate::crawl::window::Window;
+use commands::{CrawlOptions, CrawlUrl, UrlFault, UrlFile, url_target};
 use conn_key::Target;
 use conn_log::Want;
-use crawl_input::{CrawlOptions, CrawlUrl, UrlFault, UrlFile, url_target};
 use exchange::Job;
 use run_loop::Until;
 use std::alloc::{AllocError, Global};
@@ -56,7 +56,7 @@ impl Queue {
     ghost use Rattle.std.specs.Prelude.{◌≡◌, ◌≢◌, ◌++◌, ◌∷◌, ◌-◌, ◌<◌, ◌≤◌, [], true, None, All};
     ghost use Rattle.std.specs.Prelude.{ℕ, List, Option};
     ghost use Rattle.std.specs.List.{AllZip, HoldsAt};
-    ghost use Rattle.crawl_input.specs.Urls.{IsBadText};
+    ghost use Rattle.commands.specs.Urls.{IsBadText};
     ghost use Rattle.client.specs.declared.crawl.route.Route.TheVariants.{Bad};
     ghost use Rattle.std.specs.Prelude.{length, option_to_list, string_bytes};
     ghost use Rattle.std.specs.Prelude.{IfErr, IfNone, IfOk, IfSome, OnOk, OnSome};
@@ -67,14 +67,14 @@ impl Queue {
     ghost use Rattle.client.specs.Reading.{AddsUrl, Reads, ReadsOn, StopsIfBad, StopsIfUnread};
     ghost use Rattle.client.specs.Reading.{TakesBad, TakesOut};
     ghost use Rattle.client.specs.Reading.{queue_shown, url_queued};
-    ghost use Rattle.crawl_input.specs.Given.{url_text};
+    ghost use Rattle.commands.specs.Given.{url_text};
     ghost use Rattle.client.specs.Results.{HaveNumbers};
     ghost use Rattle.client.specs.Windows.{Begins, BeginsOrWaits, KeepsAll, KeepsHosts};
     ghost use Rattle.client.specs.Windows.{KeepsOthers, KeepsQueue};
     ghost use Rattle.client.specs.Steps.{IsJobOf, want_of};
     ghost use Rattle.conn_key.specs.Target.{GivesTarget};
     ghost use Rattle.client.specs.Written.{urls_in_flight};
-    ghost use Rattle.crawl_input.specs.declared.options.UrlFile.TheVariants.{None as NoFile};
+    ghost use Rattle.commands.specs.declared.crawl_options.UrlFile.TheVariants.{None as NoFile};
 
     /// Makes the queue of a crawl, of which nothing was read yet.
     pub(crate) fn new(crawl: Crawl) -> Queue

@@ -7,7 +7,7 @@ use Rattle.client.specs.Reading.{queue_shown}
 use Rattle.client.specs.Written.{output_shown}
 use Rattle.client.specs.declared.crawl.Step.TheVariants.{Read, End}
 use Rattle.client.specs.declared.crawl.fault.CrawlFault.{CrawlFault}
-use Rattle.crawl_input.specs.declared.options.CrawlOptions.{CrawlOptions}
+use Rattle.commands.specs.declared.crawl_options.CrawlOptions.{CrawlOptions}
 use Rattle.client.proofs.Finished.{end_from, fault_is, fetched_here, fetches_begun, step_from, stopped_here}
 use Rattle.client.proofs.Taken.{name_all}
 use Rattle.client.proofs.crawl.fetch_urls.Goals as goal

@@ -2,7 +2,7 @@
 use Rattle.std.proofs.Common.{◌∙◌, ap, refl, subst, sym, List, ℕ}
 use Rattle.client.specs.Reading.{queue_shown}
 use Rattle.client.specs.Written.{WritesBad, output_shown}
-use Rattle.crawl_input.specs.declared.options.CrawlOptions.{CrawlOptions}
+use Rattle.commands.specs.declared.crawl_options.CrawlOptions.{CrawlOptions}
 use Rattle.client.proofs.Positions.{at_bad, at_same}
 use Rattle.client.proofs.crawl.put_bad_urls.Goals as goal
 

@@ -3,9 +3,9 @@ use Rattle.std.specs.Prelude.{◌==◌, List, vec_len}
 use Rattle.std.specs.Global.{Vec}
 use Rattle.std.specs.List.{All}
 use Rattle.clap.specs.Words.{found_of, rows_of}
-use Rattle.crawl_input.specs.Given.{url_texts}
-use Rattle.crawl_input.specs.declared.options.CrawlFlags.{CrawlFlags}
-use Rattle.crawl_input.specs.declared.url.CrawlUrl.{CrawlUrl}
+use Rattle.commands.specs.Given.{url_texts}
+use Rattle.commands.specs.declared.crawl_options.CrawlFlags.{CrawlFlags}
+use Rattle.commands.specs.declared.url.CrawlUrl.{CrawlUrl}
 use Rattle.command_line.specs.GetPlans.{IsGoodUrl}
 use Rattle.command_line.specs.OptionTable.{OptionFacts}
 use Rattle.command_line.specs.Options.{has_bad}

@@ -4,8 +4,8 @@ use Rattle.std.specs.Prelude.{reverse}
 use Rattle.std.specs.List.{All, Any}
 use Rattle.std.proofs.lemmas.List.Elements.{All-push}
 use Rattle.clap.specs.Words.{Text}
-use Rattle.crawl_input.specs.Given.{url_texts}
-use Rattle.crawl_input.specs.Urls.{IsBadUrl}
+use Rattle.commands.specs.Given.{url_texts}
+use Rattle.commands.specs.Urls.{IsBadUrl}
 use Rattle.command_line.specs.GetPlans.{IsGoodUrl}
 use Rattle.command_line.specs.Refusals.{IsWhy}
 use Rattle.command_line.proofs.Plans.{first-url, made-first, made-more, none-left, refused-next}

@@ -1,7 +1,7 @@
 use Rattle.std.proofs.Common.{◌≡◌, ◌++◌, length, map, string_bytes}
 use Rattle.std.specs.Prelude.{reverse}
 use Rattle.std.specs.List.{All}
-use Rattle.crawl_input.specs.Given.{url_texts}
+use Rattle.commands.specs.Given.{url_texts}
 use Rattle.command_line.specs.GetPlans.{IsGoodUrl}
 use Rattle.command_line.proofs.get_urls.checked_urls.Given as goal
 

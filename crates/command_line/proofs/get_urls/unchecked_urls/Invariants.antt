@@ -1,6 +1,6 @@
 use Rattle.std.proofs.Common.{◌≡◌, ◌++◌, length, map, string_bytes}
 use Rattle.std.specs.Prelude.{reverse}
-use Rattle.crawl_input.specs.Given.{url_texts}
+use Rattle.commands.specs.Given.{url_texts}
 use Rattle.command_line.proofs.get_urls.unchecked_urls.Given as goal
 
 abbrev pub decreases-loop-text : goal.decreases-loop-text

@@ -1,6 +1,6 @@
 use Rattle.std.proofs.Common.{◌∙◌, ◌<◌, List, ℕ, arith, length, map, string_bytes, subst, take}
 use Rattle.conn_key.specs.Target.{GivesTarget}
-use Rattle.crawl_input.specs.Urls.{IsBadUrl, IsPrintable}
+use Rattle.commands.specs.Urls.{IsBadUrl, IsPrintable}
 use Rattle.command_line.specs.LoadUrls.{AreBadUrls}
 use Rattle.command_line.specs.Refusals.{IsWhy}
 use Rattle.command_line.proofs.Refusals.{handed-on}

@@ -2,7 +2,7 @@ use Rattle.std.proofs.Common.{map, string_bytes, take, subst, ℕ, List}
 use Rattle.std.specs.Prelude.{MatchOption, Option}
 use Rattle.std.specs.List.{Any}
 use Rattle.command_line.specs.Resolving.{IsNoResolve, Resolves}
-use Rattle.crawl_input.specs.declared.resolved.Resolved.{Resolved}
+use Rattle.commands.specs.declared.resolved.Resolved.{Resolved}
 use Rattle.command_line.proofs.Plans.{texts-more}
 use Rattle.command_line.proofs.Refusals.{why-holds}
 use Rattle.command_line.proofs.Resolves.{other_among, resolved_more, if-unread}

@@ -1,5 +1,5 @@
 use Rattle.std.proofs.Common.{rules}
-use Rattle.crawl_input.specs.Urls.{IsPrintable}
+use Rattle.commands.specs.Urls.{IsPrintable}
 use Rattle.command_line.proofs.url_target.checked_target.Goals as goal
 
 pub returns-in-Ok-clause-good : goal.returns-in-Ok-clause-good

@@ -1,6 +1,6 @@
 -- The sites of a load's own requests are numbered.
 use Rattle.std.proofs.Common.{◌≡◌, arith, length, min, subst}
-use Rattle.command_line.specs.Numbering.{AreNumbered}
+use Rattle.commands.specs.Numbering.{AreNumbered}
 use Rattle.cli.proofs.OwnJobs.{own_numbered}
 use Rattle.cli.proofs.loading.own_server.add_own.Goals as goal
 

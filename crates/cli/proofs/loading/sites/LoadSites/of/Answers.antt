@@ -1,7 +1,7 @@
 -- Each site belongs to a job, each job has a site, or the host of a job is unknown.
 use Rattle.std.proofs.Common.{rules, ◌≡◌, ◌<◌, ◌+◌, ◌∙◌, ap, arith, drop, length, max, refl, subst, sym}
 use Rattle.std.proofs.lemmas.List.{length-append}
-use Rattle.command_line.specs.Numbering.{AreNumbered}
+use Rattle.commands.specs.Numbering.{AreNumbered}
 use Rattle.cli.proofs.SitePlaces.{below_more, numbered_next, sites_more}
 use Rattle.cli.proofs.UnknownSites.{unknown_in}
 use Rattle.cli.proofs.loading.sites.LoadSites.of.Goals as goal

@@ -1,6 +1,6 @@
 use Rattle.std.proofs.Common.{◌≡◌, drop, length, take}
 use Rattle.cli.specs.LoadSites.{AreAllBelow, AreSitesOf}
-use Rattle.command_line.specs.Numbering.{AreNumbered}
+use Rattle.commands.specs.Numbering.{AreNumbered}
 use Rattle.cli.proofs.loading.sites.LoadSites.of.Given as goal
 
 abbrev pub invariant-loop-job : goal.invariant-loop-job

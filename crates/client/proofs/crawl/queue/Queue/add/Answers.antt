@@ -1,7 +1,7 @@
 -- A URL without a target is bad.
 use Rattle.std.proofs.Common.{inl, subst}
-use Rattle.crawl_input.specs.Urls.{IsBadUrl, IsUrlFault}
-use Rattle.crawl_input.specs.declared.url.UrlFault.{UrlFault}
+use Rattle.commands.specs.Urls.{IsBadUrl, IsUrlFault}
+use Rattle.commands.specs.declared.url.UrlFault.{UrlFault}
 use Rattle.client.proofs.crawl.queue.Queue.add.Goals as goal
 
 pub add_bad-requires : goal.add_bad-requires

@@ -2,10 +2,10 @@
 use Rattle.std.proofs.Common.{◌≡◌, refl, [], sym, ◌∙◌, subst, string_bytes}
 use Rattle.std.specs.Prelude.{◌≢◌}
 use Rattle.client.specs.FileLines.{IsNextLine}
-use Rattle.crawl_input.specs.Given.{url_text}
+use Rattle.commands.specs.Given.{url_text}
 use Rattle.client.specs.Reading.{AddsUrl, Reads, queue_shown}
 use Rattle.client.specs.declared.crawl.lines.Line.{Line}
-use Rattle.crawl_input.specs.declared.options.UrlFile.TheVariants as files
+use Rattle.commands.specs.declared.crawl_options.UrlFile.TheVariants as files
 use Rattle.client.proofs.Queues.{first_left, none_left, on_ok, reads_url, reads_word, same_words}
 use Rattle.client.proofs.crawl.queue.Queue.read_one.Goals as goal
 

@@ -5,7 +5,7 @@ use Rattle.client.specs.Hosts.{AreInUse}
 use Rattle.client.specs.Reading.{url_queued}
 use Rattle.client.specs.Windows.{BeginsOrWaits}
 use Rattle.client.specs.declared.crawl.queued.Queued.{Queued}
-use Rattle.crawl_input.specs.declared.options.CrawlOptions.{CrawlOptions}
+use Rattle.commands.specs.declared.crawl_options.CrawlOptions.{CrawlOptions}
 use Rattle.client.proofs.Places.{keeps_all, keeps_past}
 use Rattle.client.proofs.Queues.{IsWindow, window_none, window_on}
 use Rattle.client.proofs.crawl.queue.Queue.window.Goals as goal

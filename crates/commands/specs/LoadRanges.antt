@@ -1,6 +1,9 @@
 -- The ranges of a load's numbers.
-use Rattle.std.specs.Prelude.{ℕ}
-use Rattle.command_line.specs.Numbers.{IsWithin}
+use Rattle.std.specs.Prelude.{ℕ, ◌≤◌}
+
+-- a number in a range
+abbrev pub IsWithin : ℕ → ℕ → ℕ → Type 0
+IsWithin least greatest n = (least ≤ n) × (n ≤ greatest)
 
 -- the ranges of the six numbers
 pub record AreInRange (sites jobs workers host_limit total connects : ℕ) : Type 0 where

@@ -3,7 +3,7 @@
 ghost use Rattle.std.specs.Prelude.{◌≡◌};
 ghost use Rattle.std.specs.List.{list_any};
 ghost use Rattle.std.specs.Str.{chars};
-ghost use Rattle.crawl_input.specs.Printable.{is_unprintable};
+ghost use Rattle.commands.specs.Printable.{is_unprintable};
 
 use std::fmt;
 

@@ -1,11 +1,11 @@
 //! Exit statuses of the program.
 
 ghost use Rattle.std.specs.Prelude.{◌≡◌};
-ghost use Rattle.cli.specs.Statuses.{status_code};
+ghost use Rattle.commands.specs.Statuses.{status_code};
 
 /// Exit status of the program.
 #[derive(Clone, Copy)]
-pub(crate) enum Status {
+pub enum Status {
     /// The script ran to its end, each URL has a good response, the report was written, or the
     /// trace is lawful.
     Done,
@@ -25,7 +25,7 @@ pub(crate) enum Status {
 
 impl Status {
     /// Returns the number with which the program ends.
-    pub(crate) fn code(self) -> u8
+    pub fn code(self) -> u8
         ensures { result ≡ status_code self }
     {
         match self {

@@ -1,7 +1,7 @@
 -- The URLs of a crawl, and the addresses that are given for hosts.
 use Rattle.std.specs.Prelude.{ℕ, List, map, string_bytes, ◌≡◌, ◌⊎◌, ◌∷◌, [], Option, Some, None}
-use Rattle.crawl_input.specs.declared.resolved.Resolved.{Resolved}
-use Rattle.crawl_input.specs.declared.url.CrawlUrl.{CrawlUrl}
+use Rattle.commands.specs.declared.resolved.Resolved.{Resolved}
+use Rattle.commands.specs.declared.url.CrawlUrl.{CrawlUrl}
 use Rattle.std.specs.Char.{to_ascii_lowercase}
 use Rattle.std.specs.Net.Socket.{socket_port}
 use Rattle.std.specs.declared.net.socket_addr.SocketAddr.{SocketAddr}

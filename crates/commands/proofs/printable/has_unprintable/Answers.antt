@@ -1,8 +1,8 @@
 use Rattle.std.proofs.Common.{rules}
 use Rattle.std.proofs.lemmas.Iterator.{YieldsList-from_chars}
 use Rattle.std.proofs.lemmas.Iterator.Search.{any_from_yields_List}
-use Rattle.crawl_input.specs.Printable.{is_unprintable}
-use Rattle.crawl_input.proofs.printable.has_unprintable.Goals as goal
+use Rattle.commands.specs.Printable.{is_unprintable}
+use Rattle.commands.proofs.printable.has_unprintable.Goals as goal
 
 pub returns : goal.returns
 returns c = any_from_yields_List is_unprintable _ _ _ c.any.ensures.ran (YieldsList-from_chars c.args.text.now c.utf8.text cc) (λ x b q k. search (rules))

@@ -1,10 +1,10 @@
 //! Plans of loads.
 
-ghost use Rattle.command_line.specs.Numbering.{AreNumbered, numbered_prop};
+ghost use Rattle.commands.specs.Numbering.{AreNumbered, numbered_prop};
 
 use crate::load_limits::LoadOptions;
-use crate::load_measured::{MeasuredFlags, MeasuredNumbers};
-use crawl_input::Resolved;
+use crate::load_settings::{LoadFlags, LoadNumbers};
+use crate::resolved::Resolved;
 use exchange::Job;
 
 /// The plan of a load, made from the command line.
@@ -13,8 +13,8 @@ pub struct LoadPlan {
     /// Its six numbers.
     pub options: LoadOptions,
     /// Its other numbers.
-    pub numbers: MeasuredNumbers,
-    pub flags: MeasuredFlags,
+    pub numbers: LoadNumbers,
+    pub flags: LoadFlags,
     /// Its URLs, at most eight. Without URLs, the load starts a server and requests that.
     pub urls: Vec<String>,
     /// Its requests, sent round robin. Sites are numbered in the order in which the requests name

@@ -1,7 +1,7 @@
 -- The program's exit statuses.
 use Rattle.std.specs.Prelude.{ℕ}
-use Rattle.cli.specs.declared.status.Status.{Status}
-use Rattle.cli.specs.declared.status.Status.TheVariants.{Done, Broken, Refused, Stopped, Failed, FailedAbove, Interrupted}
+use Rattle.commands.specs.declared.status.Status.{Status}
+use Rattle.commands.specs.declared.status.Status.TheVariants.{Done, Broken, Refused, Stopped, Failed, FailedAbove, Interrupted}
 
 abbrev pub status_code : Status → ℕ
 status_code Done = 0

@@ -2,7 +2,7 @@
 
 ghost use Rattle.std.specs.Prelude.{◌≡◌};
 ghost use Rattle.budget.specs.Limits.{bounds_of};
-ghost use Rattle.command_line.specs.LoadRanges.{AreInRange};
+ghost use Rattle.commands.specs.LoadRanges.{AreInRange};
 
 use budget::Limits;
 

@@ -1,7 +1,7 @@
 //! Addresses that are given for hosts, which are not looked up then.
 
 ghost use Rattle.std.specs.Prelude.{IsTrue, ◌↔◌};
-ghost use Rattle.crawl_input.specs.Given.{IsGivenAddress, IsGivenFor};
+ghost use Rattle.commands.specs.Given.{IsGivenAddress, IsGivenFor};
 
 use std::net::SocketAddr;
 

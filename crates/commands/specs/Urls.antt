@@ -6,9 +6,9 @@ use Rattle.std.specs.Str.Lossy.{utf8_lossy}
 use Rattle.conn_key.specs.Target.{Refuses}
 use Rattle.conn_key.specs.declared.target.KeyError.{KeyError}
 use Rattle.conn_key.specs.declared.target.KeyError.TheVariants.{Memory}
-use Rattle.crawl_input.specs.Printable.{is_unprintable}
-use Rattle.crawl_input.specs.declared.url.UrlFault.{UrlFault}
-use Rattle.crawl_input.specs.declared.url.UrlFault.TheVariants as faults
+use Rattle.commands.specs.Printable.{is_unprintable}
+use Rattle.commands.specs.declared.url.UrlFault.{UrlFault}
+use Rattle.commands.specs.declared.url.UrlFault.TheVariants as faults
 
 -- a text that a terminal prints as it is
 abbrev pub IsPrintable : List ℕ → Type 0

@@ -3,7 +3,7 @@
 ghost use Rattle.std.specs.Option.{ForSome};
 ghost use Rattle.std.specs.Prelude.{IfOk, IfErr, string_bytes};
 ghost use Rattle.conn_key.specs.Target.{GivesTarget};
-ghost use Rattle.crawl_input.specs.Urls.{IsUrlFault};
+ghost use Rattle.commands.specs.Urls.{IsUrlFault};
 
 use crate::printable::has_unprintable;
 use conn_key::{CountedMemory, KeyError, Target, read_target};

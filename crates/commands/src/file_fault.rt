@@ -1,12 +1,12 @@
 //! Messages for files that cannot be read or written.
 
-use crawl_input::Escaped;
+use crate::printable::Escaped;
 use std::alloc::{AllocError, Global};
 use std::io::{Error, Write};
 
 /// The operation on a file that failed.
 #[derive(Clone, Copy)]
-pub(crate) enum FileAction {
+pub enum FileAction {
     Read,
     Write,
 }
@@ -27,7 +27,7 @@ impl FileAction {
 /// # Errors
 ///
 /// An allocation failed.
-pub(crate) fn file_fault_text(
+pub fn file_fault_text(
     alloc: Global,
     action: FileAction,
     name: &str,
@@ -45,7 +45,7 @@ pub(crate) fn file_fault_text(
 }
 
 /// Writes the message for a named file, or one without name and reason if an allocation fails.
-pub(crate) fn write_file_fault<E: Write>(
+pub fn write_file_fault<E: Write>(
     alloc: Global,
     errors: &mut E,
     action: FileAction,

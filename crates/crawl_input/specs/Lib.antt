@@ -1,3 +1,0 @@
-pub mod Printable
-pub mod Urls
-pub mod Given
