@@ -1,9 +1,3 @@
 pub mod Auditing
 pub mod Fetching
-pub mod LoadJobs
-pub mod Loading
 pub mod Programs
-pub mod LoadTraces
-pub mod LoadStatuses
-pub mod LoadSites
-pub mod LoadRuns

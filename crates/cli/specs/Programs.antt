@@ -10,7 +10,7 @@ use Rattle.command_line.specs.declared.request.Request.TheVariants as requests
 use Rattle.streams.specs.Streams.{Stream}
 use Rattle.script_engine.specs.Running.{RunsScript}
 use Rattle.script_engine.specs.RunFiles.{RunsFile}
-use Rattle.cli.specs.Loading.{WritesText}
+use Rattle.load_run.specs.LoadTexts.{WritesText}
 use Rattle.command_line.specs.Inputs.{name_of}
 use Rattle.cli.specs.Auditing.{AnswersAudit, Opening}
 use Rattle.command_line.specs.CommandLine.{Asks, Said}

@@ -4,7 +4,6 @@
 
 mod auditing;
 mod get;
-mod loading;
 mod program;
 mod script;
 mod system;
@@ -12,10 +11,5 @@ mod system;
 pub use get::run_get;
 pub use get::system_names::{SystemNames, SystemResolver, look_up_threads};
 pub use get::system_network::SystemNetwork;
-pub use loading::failure::LoadFailure;
-pub use loading::fault::LoadFault;
-pub use loading::outcome::LoadOutcome;
-pub use loading::run_load;
-pub use loading::system::load_on_system;
 pub use program::run_program;
 pub use system::System;

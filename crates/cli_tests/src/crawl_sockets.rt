@@ -3,10 +3,11 @@
 use crate::checks::check_eq;
 use crate::networks::FakeNames;
 use crate::running::words_of;
-use cli::{LoadFault, System, SystemNetwork, run_program};
+use cli::{System, SystemNetwork, run_program};
 use client::{LookUps, Network, NetworkFault};
 use command_line::CountedArgsAlloc;
 use commands::CrawlOptions;
+use load_run::LoadFault;
 use loopback_server::Server;
 use std::alloc::{AllocError, AllocGlobal, Global};
 use std::fmt::Write;

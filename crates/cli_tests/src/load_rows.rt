@@ -3,9 +3,8 @@
 use crate::loads::FakeLoader;
 use crate::networks::FakeNetwork;
 use crate::running::{ROW, Row, Text, check, check_stopped, run, words_of};
-use cli::LoadFault;
 use driver::DriverFault;
-use load_run::LoadError;
+use load_run::{LoadError, LoadFault};
 
 /// Words, and the numbers that a load is given: sites, jobs, workers, the limit of a host, of the
 /// total, and how many are kept.

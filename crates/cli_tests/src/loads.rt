@@ -1,9 +1,8 @@
 //! A fake for loads: it keeps the plan, and returns a fixed answer.
 
-use cli::{LoadFailure, LoadFault, LoadOutcome};
 use commands::LoadPlan;
 use driver::DriverFault;
-use load_run::LoadError;
+use load_run::{LoadError, LoadFailure, LoadFault, LoadOutcome};
 use std::alloc::Global;
 
 /// A fake for loads, with the report or fault that it returns, the number of calls, and the numbers

@@ -5,3 +5,11 @@ pub mod CollectedWork
 pub mod CarriedOut
 pub mod ManyRefusals
 pub mod WhatMayBeLoaded
+pub mod LoadTraces
+pub mod UnknownSites
+pub mod OwnJobs
+pub mod Outcomes
+pub mod SitePlaces
+pub mod FirstNumbers
+pub mod LoadResults
+pub mod RunResults

@@ -5,3 +5,9 @@ pub mod UrlJobs
 pub mod Counting
 pub mod Stopping
 pub mod ManyLoads
+pub mod LoadJobs
+pub mod LoadTexts
+pub mod LoadTraces
+pub mod LoadStatuses
+pub mod LoadSites
+pub mod LoadRuns

@@ -5,6 +5,7 @@
 mod account;
 mod counted_results;
 mod error;
+mod load;
 mod load_clock;
 mod load_timer;
 mod loading;
@@ -18,6 +19,11 @@ mod wait_sum;
 mod watch;
 
 pub use error::LoadError;
+pub use load::run_load;
+pub use load::failure::LoadFailure;
+pub use load::fault::LoadFault;
+pub use load::outcome::LoadOutcome;
+pub use load::system::load_on_system;
 pub use loading::{LoadedMany, load_many};
 pub use pace::Rate;
 pub use plan::{LoadTimes, ManyPlan};

@@ -2,9 +2,10 @@
 //! through a pool, and puts a shared cache under load.
 #![tactic(auto)]
 
-use cli::{System, SystemNetwork, SystemResolver, load_on_system, look_up_threads, run_program};
+use cli::{System, SystemNetwork, SystemResolver, look_up_threads, run_program};
 use client::LookUps;
 use command_line::{CountedArgsAlloc, given_words};
+use load_run::load_on_system;
 use std::alloc::Global;
 use std::fs::{self, File};
 use std::io::{self, IsTerminal};

@@ -1,8 +1,9 @@
 //! The program, with its streams in memory.
 
 use crate::networks::FakeNetwork;
-use cli::{System, load_on_system, run_program};
+use cli::{System, run_program};
 use command_line::{CountedArgsAlloc, Words};
+use load_run::load_on_system;
 use std::alloc::{AllocError, AllocGlobal, Global};
 use std::random::RandomSource;
 use std::sync::Wait;
