@@ -2,11 +2,11 @@
 use Rattle.std.specs.Option.{option_map}
 use Rattle.std.specs.Prelude.{◌≡◌, ◌⊎◌, ◌==◌, ℕ, Option, Some, None, List, string_bytes, if◌then◌else◌}
 use Rattle.clap.specs.Words.{Text}
-use Rattle.client.specs.Crawling.{CrawlGiven, Crawls}
+use Rattle.crawl.specs.Crawling.{CrawlGiven, Crawls}
 use Rattle.commands.specs.Given.{url_texts}
-use Rattle.client.specs.declared.crawl.Crawled.{Crawled}
-use Rattle.client.specs.declared.crawl.fault.CrawlFault.{CrawlFault}
-use Rattle.client.specs.declared.crawl.fault.CrawlFault.TheVariants as faults
+use Rattle.crawl.specs.declared.crawl.Crawled.{Crawled}
+use Rattle.crawl.specs.declared.crawl.fault.CrawlFault.{CrawlFault}
+use Rattle.crawl.specs.declared.crawl.fault.CrawlFault.TheVariants as faults
 use Rattle.commands.specs.declared.crawl_options.UrlFile.{UrlFile}
 use Rattle.commands.specs.declared.crawl_options.UrlFile.TheVariants as files
 use Rattle.exchange.specs.declared.job.Job.{Job}

@@ -1,17 +1,17 @@
 //! Fetches URLs, and writes a line for each.
 
 ghost use Rattle.std.specs.Prelude.{◌≡◌, None, option_map, string_bytes};
-ghost use Rattle.client.specs.Crawling.{crawl_given};
+ghost use Rattle.crawl.specs.Crawling.{crawl_given};
 ghost use Rattle.cli.specs.Fetching.{IsKindOf, RunsCrawl, RunsGet, crawl_status};
 ghost use Rattle.command_line.specs.GetPlans.{plan_file};
 ghost use Rattle.streams.specs.Streams.{CanCount};
 
-pub(crate) mod system_names;
+pub(crate) mod look_up_threads;
 pub(crate) mod system_network;
 
 use crate::system::System;
-use client::{Crawl, CrawlFault, Crawled, Network};
 use commands::{CrawlPlan, FileAction, Status, UrlFile, write_file_fault};
+use crawl::{Crawl, CrawlFault, Crawled, Network};
 use std::alloc::Global;
 use std::io::{self, Write};
 use streams::{Files, Sink, Source, StreamFault};

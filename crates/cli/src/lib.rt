@@ -9,7 +9,7 @@ mod script;
 mod system;
 
 pub use get::run_get;
-pub use get::system_names::{SystemNames, SystemResolver, look_up_threads};
+pub use get::look_up_threads::look_up_threads;
 pub use get::system_network::SystemNetwork;
 pub use program::run_program;
 pub use system::System;

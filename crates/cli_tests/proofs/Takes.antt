@@ -3,7 +3,7 @@ use Rattle.std.proofs.Common.{◌≡◌, ℕ, List, [], ◌∷◌, ◌++◌, ref
 use Rattle.exchange.specs.declared.done.Done.{Done}
 use Rattle.run_loop.specs.Taking.{AllTaken, JobResult, job_result}
 use Rattle.run_loop.specs.declared.results.Span.{Span}
-use Rattle.client.specs.Results.{TakesAll}
+use Rattle.crawl.specs.Results.{TakesAll}
 
 module _ {R : Type 0} (took : R → R → ℕ → Done → Span → Type 0) where
   pub takes_none : (now : R) → TakesAll (λ told. Unit {0}) took now now

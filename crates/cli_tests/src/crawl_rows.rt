@@ -2,7 +2,7 @@
 
 use crate::checks::check_eq;
 use crate::running::{ROW, Row, Text, check, check_stopped};
-use client::NetworkFault;
+use crawl::NetworkFault;
 use std::sync::atomic::Ordering;
 
 /// Two URLs, of which the second ends first.

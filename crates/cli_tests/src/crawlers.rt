@@ -1,11 +1,11 @@
 //! A crawler without a network: the path of a URL gives the result of its transfer.
 
 ghost use Rattle.std.specs.Prelude.{⊤, true};
-ghost use Rattle.client.specs.Results.{TakesAll};
+ghost use Rattle.crawl.specs.Results.{TakesAll};
 
 use crate::networks::FakeFetcher;
-use client::{Crawler, NetworkFault, Signals};
 use conn_key::Places;
+use crawl::{Crawler, NetworkFault, Signals};
 use exchange::{Done, Fault, Job, Phases, Reason};
 use run_loop::{Results, Span, Until};
 use std::alloc::{AllocError, Global};

@@ -2,8 +2,9 @@
 
 use crate::crawlers::FakeCrawler;
 use budget::Refusal;
-use client::{Answer, Fetched, Names, Network, NetworkFault};
+use client::{Answer, Fetched, Names};
 use commands::CrawlOptions;
+use crawl::{Network, NetworkFault};
 use exchange::{Done, Fault, Job};
 use persistence::{Facts, Framing, Method, Version};
 use std::alloc::{AllocError, Global};

@@ -15,8 +15,8 @@ use Rattle.std.specs.Str.Lossy.{utf8_lossy}
 use Rattle.streams.proofs.Splits.{parts_after, slice_split-parts}
 use Rattle.client.specs.Lines.{Text}
 use Rattle.client.specs.FileLines.{AreFirst, GivesUrls, HasNoEnd, HasNoLine, IsNextLine, KnowsEnd, LinesShown, ReadsFile, TakesLine, ends_line, is_skipped, line_front, nothing_read, urls_in, urls_left, urls_of_front, urls_on, urls_returned}
-use Rattle.client.specs.declared.crawl.lines.Line.{Line}
-use Rattle.client.specs.declared.crawl.lines.Line.TheVariants.{Url, Bad, Skipped, Unread, Over}
+use Rattle.client.specs.declared.lines.Line.{Line}
+use Rattle.client.specs.declared.lines.Line.TheVariants.{Url, Bad, Skipped, Unread, Over}
 
 -- ---- one line
 

@@ -6,9 +6,9 @@ use Rattle.std.specs.Str.Lines.{strip_carriage_return}
 use Rattle.std.specs.Str.Lossy.{utf8_lossy}
 use Rattle.streams.specs.Streams.{Stream, SameFailures, OneMoreFailed}
 use Rattle.client.specs.Lines.{Text}
-use Rattle.client.specs.declared.crawl.lines.Line.{Line}
-use Rattle.client.specs.declared.crawl.lines.Line.TheVariants.{Url, Bad, Skipped, Unread, Over}
-use Rattle.client.specs.declared.crawl.lines.UrlLines.{UrlLines}
+use Rattle.client.specs.declared.lines.Line.{Line}
+use Rattle.client.specs.declared.lines.Line.TheVariants.{Url, Bad, Skipped, Unread, Over}
+use Rattle.client.specs.declared.lines.UrlLines.{UrlLines}
 
 -- LF ends a line
 abbrev pub ends_line : ℕ → Bool

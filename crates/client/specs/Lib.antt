@@ -1,17 +1,5 @@
 pub mod Clients
 pub mod Fetching
-pub mod Leading
 pub mod Lines
-pub mod Results
-pub mod Unused
-pub mod Alone
-pub mod Hosts
-pub mod Placing
-pub mod Faults
 pub mod FileLines
-pub mod Reading
-pub mod Written
-pub mod Steps
-pub mod Windows
-pub mod Crawling
 pub mod LookedUp

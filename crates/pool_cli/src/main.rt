@@ -2,8 +2,8 @@
 //! through a pool, and puts a shared cache under load.
 #![tactic(auto)]
 
-use cli::{System, SystemNetwork, SystemResolver, look_up_threads, run_program};
-use client::LookUps;
+use cli::{System, SystemNetwork, look_up_threads, run_program};
+use client::{LookUps, SystemResolver};
 use command_line::{CountedArgsAlloc, given_words};
 use load_run::load_on_system;
 use std::alloc::Global;

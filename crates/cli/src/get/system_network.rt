@@ -1,10 +1,10 @@
 //! The system's network.
 
-use crate::get::system_names::{SystemNames, SystemResolver};
 use budget::Limits;
 use cache::Pool;
-use client::{LookUps, LoopCrawler, Network, NetworkFault};
+use client::{LookUps, SystemNames, SystemResolver};
 use commands::CrawlOptions;
+use crawl::{LoopCrawler, Network, NetworkFault};
 use futures::task::{Doorbell, Solo};
 use socket::{Addresses, PolledDial, PolledWire, SystemClock};
 use std::alloc::{AllocGlobal, Global};

@@ -1,4 +1,4 @@
-use Rattle.client.specs.Results.{TakesAll}
+use Rattle.crawl.specs.Results.{TakesAll}
 use Rattle.cli_tests.proofs.crawlers.FakeCrawler.end_late.Given as goal
 
 abbrev pub invariant-loop-ending : goal.invariant-loop-ending

@@ -1,4 +1,4 @@
-use Rattle.client.specs.Results.{TakesAll}
+use Rattle.crawl.specs.Results.{TakesAll}
 use Rattle.cli_tests.proofs.crawlers.FakeCrawlerCrawler.crawl.Given as goal
 
 abbrev pub invariant-loop-place : goal.invariant-loop-place

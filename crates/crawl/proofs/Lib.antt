@@ -1,0 +1,9 @@
+pub mod Numbers
+pub mod Accounts
+pub mod Taken
+pub mod Positions
+pub mod Finished
+pub mod Lines
+pub mod Queues
+pub mod Alone
+pub mod Places

@@ -1,0 +1,12 @@
+pub mod Leading
+pub mod Results
+pub mod Unused
+pub mod Alone
+pub mod Hosts
+pub mod Placing
+pub mod Faults
+pub mod Reading
+pub mod Written
+pub mod Steps
+pub mod Windows
+pub mod Crawling
