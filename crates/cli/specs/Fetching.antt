@@ -5,8 +5,8 @@ use Rattle.clap.specs.Words.{Text}
 use Rattle.crawl.specs.Crawling.{CrawlGiven, Crawls}
 use Rattle.commands.specs.Given.{url_texts}
 use Rattle.crawl.specs.declared.crawl.Crawled.{Crawled}
-use Rattle.crawl.specs.declared.crawl.fault.CrawlFault.{CrawlFault}
-use Rattle.crawl.specs.declared.crawl.fault.CrawlFault.TheVariants as faults
+use Rattle.crawl.specs.declared.fault.CrawlFault.{CrawlFault}
+use Rattle.crawl.specs.declared.fault.CrawlFault.TheVariants as faults
 use Rattle.commands.specs.declared.crawl_options.UrlFile.{UrlFile}
 use Rattle.commands.specs.declared.crawl_options.UrlFile.TheVariants as files
 use Rattle.exchange.specs.declared.job.Job.{Job}

@@ -4,12 +4,14 @@
 
 mod auditing;
 mod get;
+mod loading;
 mod program;
 mod script;
 mod system;
 
-pub use get::run_get;
 pub use get::look_up_threads::look_up_threads;
+pub use get::run_get;
 pub use get::system_network::SystemNetwork;
+pub use loading::run_load;
 pub use program::run_program;
 pub use system::System;

@@ -9,12 +9,13 @@ ghost use Rattle.streams.specs.Streams.{CanCount};
 
 use crate::auditing::answer_audit;
 use crate::get::run_get;
+use crate::loading::run_load;
 use crate::script::answer_script;
 use crate::system::System;
 use command_line::{ArgsAlloc, Input, Request, ScriptWords, Words};
 use commands::{LoadPlan, Status};
 use crawl::Network;
-use load_run::{LoadFailure, LoadOutcome, run_load};
+use load_run::{LoadFailure, LoadOutcome};
 use std::alloc::Global;
 use std::io::Write;
 use streams::{Files, Sink, Source};

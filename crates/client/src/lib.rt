@@ -1,5 +1,5 @@
-//! Clients: one sends one request after another and keeps its connections; a crawl fetches many
-//! URLs at once over one cache.
+//! A client sends one request after another over a pool, and keeps its connections. What crawls read
+//! is here too: names that are looked up, on threads of their own, and the lines of a file of URLs.
 #![tactic(auto)]
 
 mod client;

@@ -115,11 +115,7 @@ impl UrlLines {
     /// # Errors
     ///
     /// There is no memory for the bytes of the read.
-    pub fn read_on<R: Source>(
-        &mut self,
-        alloc: Global,
-        input: &mut R,
-    ) -> Result<bool, AllocError>
+    pub fn read_on<R: Source>(&mut self, alloc: Global, input: &mut R) -> Result<bool, AllocError>
         requires counts { CanCount (R.source input.old) }
         requires no_line { NeedsMore (lines_shown self.old) }
         ensures counts_on { IfOk result (λ was_read.

@@ -18,8 +18,8 @@ use Rattle.crawl.specs.Crawling.{AreAccounted}
 use Rattle.client.specs.Lines.{Text}
 use Rattle.crawl.specs.Steps.{HasJob, IsEndOf, IsOfResult, IsResultOf, want_of}
 use Rattle.crawl.specs.Written.{AreWhole, AreWritten, Counts, OutputShown, PutsAs, TakesResult, TakesShown, Written, WritesResult, has_failed, tally_of, text_of, url_in_flight, url_written, urls_in_flight, urls_written}
-use Rattle.crawl.specs.declared.crawl.in_flight.InFlight.{InFlight}
-use Rattle.crawl.specs.declared.crawl.in_flight.Tally.{Tally}
+use Rattle.crawl.specs.declared.in_flight.InFlight.{InFlight}
+use Rattle.crawl.specs.declared.in_flight.Tally.{Tally}
 use Rattle.commands.specs.declared.crawl_options.CrawlFlags.{CrawlFlags}
 use Rattle.commands.specs.declared.crawl_options.CrawlOptions.{CrawlOptions}
 

@@ -22,10 +22,10 @@ use Rattle.crawl.specs.Written.{AreWritten, OutputShown, TakesShown, TookAll, ta
 use Rattle.crawl.specs.declared.crawl.Crawled.{Crawled}
 use Rattle.crawl.specs.declared.crawl.Step.{Step}
 use Rattle.crawl.specs.declared.crawl.Step.TheVariants as steps
-use Rattle.crawl.specs.declared.crawl.fault.CrawlFault.{CrawlFault}
-use Rattle.crawl.specs.declared.crawl.fault.CrawlFault.TheVariants as faults
-use Rattle.crawl.specs.declared.crawl.fault.NetworkFault.{NetworkFault}
-use Rattle.crawl.specs.declared.crawl.in_flight.InFlight.{InFlight}
+use Rattle.crawl.specs.declared.fault.CrawlFault.{CrawlFault}
+use Rattle.crawl.specs.declared.fault.CrawlFault.TheVariants as faults
+use Rattle.crawl.specs.declared.fault.NetworkFault.{NetworkFault}
+use Rattle.crawl.specs.declared.in_flight.InFlight.{InFlight}
 use Rattle.commands.specs.declared.crawl_options.CrawlFlags.{CrawlFlags}
 use Rattle.commands.specs.declared.crawl_options.CrawlOptions.{CrawlOptions}
 use Rattle.client.proofs.FileLines.{first_in}

@@ -10,7 +10,7 @@ use Rattle.streams.specs.declared.stream_fault.StreamFault.{StreamFault}
 use Rattle.streams.specs.declared.stream_fault.StreamFault.TheVariants.{Memory, Read, Write}
 use Rattle.client.specs.Lines.{Text, fetched_as, line_of}
 use Rattle.crawl.specs.Written.{Counts, HasNoTransfer, OutputShown, PutsAs, PutsText, TakesResult, WritesBad, WritesText, done_failed}
-use Rattle.crawl.specs.declared.crawl.in_flight.InFlight.{InFlight}
+use Rattle.crawl.specs.declared.in_flight.InFlight.{InFlight}
 
 -- nothing failed
 pub no_fault : (fault : Option StreamFault) → is_some fault ≡ false → fault ≡ None

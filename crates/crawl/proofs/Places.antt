@@ -10,7 +10,7 @@ use Rattle.conn_key.specs.Giving.{Gives}
 use Rattle.conn_key.specs.Hosts.{Hosts}
 use Rattle.conn_key.proofs.GivingLemmas.{only_unused_change}
 use Rattle.crawl.specs.Hosts.{AreInUse, GrowsOrStays, IsInUse, KeepsInUse, is_in_use}
-use Rattle.crawl.specs.declared.crawl.in_flight.InFlight.{InFlight}
+use Rattle.crawl.specs.declared.in_flight.InFlight.{InFlight}
 
 false_is : false ≡ true → ⊥
 false_is same = cc

@@ -18,7 +18,7 @@ use Rattle.crawl.specs.Reading.{QueueShown, Reads, TakesOut}
 use Rattle.crawl.specs.Results.{AreNumbered, HaveNumbers}
 use Rattle.crawl.specs.Steps.{HasJob, IsEndOf, IsJobOf, IsOfResult}
 use Rattle.crawl.specs.Written.{AreWritten, BeginsAll, OutputShown, TakesShown, WritesBad, tally_of, url_in_flight, urls_in_flight, urls_written}
-use Rattle.crawl.specs.declared.crawl.in_flight.InFlight.{InFlight}
+use Rattle.crawl.specs.declared.in_flight.InFlight.{InFlight}
 use Rattle.commands.specs.declared.crawl_options.CrawlFlags.{CrawlFlags}
 use Rattle.commands.specs.declared.crawl_options.CrawlOptions.{CrawlOptions}
 use Rattle.crawl.proofs.Accounts.{among_rest, first_of, have_jobs_on, lines_more, lines_on, takes_all, tally_more, urls_more}

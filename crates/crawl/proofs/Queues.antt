@@ -17,15 +17,15 @@ use Rattle.client.specs.FileLines.{LinesShown, TakesLine}
 use Rattle.crawl.specs.Reading.{AddsUrl, QueueShown, Reads, TakesOut, url_queued, urls_queued}
 use Rattle.crawl.specs.Results.{HaveNumbers}
 use Rattle.commands.specs.Urls.{IsBadText}
-use Rattle.crawl.specs.declared.crawl.route.Route.TheVariants.{Bad}
+use Rattle.crawl.specs.declared.route.Route.TheVariants.{Bad}
 use Rattle.crawl.specs.Windows.{Begins, BeginsOrWaits, Waits}
 use Rattle.crawl.specs.Steps.{IsJobOf}
 use Rattle.crawl.specs.Written.{url_in_flight, urls_in_flight}
-use Rattle.crawl.specs.declared.crawl.fault.CrawlFault.{CrawlFault}
-use Rattle.crawl.specs.declared.crawl.fault.CrawlFault.TheVariants as faults
-use Rattle.crawl.specs.declared.crawl.in_flight.InFlight.{InFlight}
-use Rattle.crawl.specs.declared.crawl.queued.Queued.{Queued}
-use Rattle.crawl.specs.declared.crawl.window.Window.{Window}
+use Rattle.crawl.specs.declared.fault.CrawlFault.{CrawlFault}
+use Rattle.crawl.specs.declared.fault.CrawlFault.TheVariants as faults
+use Rattle.crawl.specs.declared.in_flight.InFlight.{InFlight}
+use Rattle.crawl.specs.declared.queued.Queued.{Queued}
+use Rattle.crawl.specs.declared.window.Window.{Window}
 use Rattle.commands.specs.declared.crawl_options.CrawlOptions.{CrawlOptions}
 use Rattle.commands.specs.declared.crawl_options.UrlFile.TheVariants as files
 use Rattle.commands.specs.declared.url.CrawlUrl.{CrawlUrl}

@@ -3,7 +3,7 @@ use Rattle.std.proofs.Common.{◌≡◌, List, [], ◌∷◌, length, ap, sym, �
 use Rattle.std.specs.Prelude.{None}
 use Rattle.run_loop.specs.Taking.{AllTaken, JobResult}
 use Rattle.crawl.specs.Written.{OutputShown, TakesResult, TakesShown}
-use Rattle.crawl.specs.declared.crawl.in_flight.InFlight.{InFlight}
+use Rattle.crawl.specs.declared.in_flight.InFlight.{InFlight}
 
 -- no result changes the part, so all together leave it
 module _ {X : Type 0} (of : OutputShown → X) (keeps : (result : JobResult) (old new : OutputShown) → TakesResult result old new → of new ≡ of old) where

@@ -20,9 +20,9 @@ use Rattle.crawl.specs.declared.crawl.Crawl.{Crawl}
 use Rattle.crawl.specs.declared.crawl.Crawled.{Crawled}
 use Rattle.crawl.specs.declared.crawl.Step.{Step}
 use Rattle.crawl.specs.declared.crawl.Step.TheVariants as steps
-use Rattle.crawl.specs.declared.crawl.in_flight.InFlight.{InFlight}
-use Rattle.crawl.specs.declared.crawl.fault.CrawlFault.{CrawlFault}
-use Rattle.crawl.specs.declared.crawl.fault.CrawlFault.TheVariants as faults
+use Rattle.crawl.specs.declared.in_flight.InFlight.{InFlight}
+use Rattle.crawl.specs.declared.fault.CrawlFault.{CrawlFault}
+use Rattle.crawl.specs.declared.fault.CrawlFault.TheVariants as faults
 use Rattle.commands.specs.declared.crawl_options.CrawlOptions.{CrawlOptions}
 use Rattle.commands.specs.declared.crawl_options.UrlFile.{UrlFile}
 use Rattle.commands.specs.declared.crawl_options.UrlFile.TheVariants as files

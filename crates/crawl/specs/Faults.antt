@@ -2,8 +2,8 @@
 use Rattle.std.specs.Prelude.{◌≡◌, Bool, true, false, not, Option, Some, None}
 use Rattle.streams.specs.declared.stream_fault.StreamFault.{StreamFault}
 use Rattle.streams.specs.declared.stream_fault.StreamFault.TheVariants.{Read}
-use Rattle.crawl.specs.declared.crawl.fault.CrawlFault.{CrawlFault}
-use Rattle.crawl.specs.declared.crawl.fault.CrawlFault.TheVariants as faults
+use Rattle.crawl.specs.declared.fault.CrawlFault.{CrawlFault}
+use Rattle.crawl.specs.declared.fault.CrawlFault.TheVariants as faults
 use Rattle.commands.specs.declared.crawl_options.CrawlOptions.{CrawlOptions}
 
 -- the fault of a line that could not be written, if the fault is of one

@@ -2,7 +2,7 @@
 use Rattle.std.specs.Prelude.{◌≡◌, ◌⊎◌, ◌<◌, ◌++◌, ◌∷◌, [], ℕ, Bool, true, false, List, length, slice_get, unwrap_or, Some}
 use Rattle.std.specs.List.{All}
 use Rattle.conn_key.specs.Hosts.{Hosts}
-use Rattle.crawl.specs.declared.crawl.in_flight.InFlight.{InFlight}
+use Rattle.crawl.specs.declared.in_flight.InFlight.{InFlight}
 
 -- a transfer is in flight at a place, or about to begin there
 abbrev pub is_in_use : List Bool → ℕ → Bool

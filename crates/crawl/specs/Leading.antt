@@ -2,8 +2,8 @@
 use Rattle.std.specs.Prelude.{ℕ, List}
 use Rattle.conn_key.specs.Target.{GivesTarget}
 use Rattle.commands.specs.Urls.{IsBadText}
-use Rattle.crawl.specs.declared.crawl.route.Route.{Route}
-use Rattle.crawl.specs.declared.crawl.route.Route.TheVariants.{To, Bad}
+use Rattle.crawl.specs.declared.route.Route.{Route}
+use Rattle.crawl.specs.declared.route.Route.TheVariants.{To, Bad}
 
 -- a URL leads to this target, or it is bad
 abbrev pub LeadsAs : List ℕ → Route → Type 0

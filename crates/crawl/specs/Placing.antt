@@ -1,9 +1,9 @@
 -- The places of hosts.
 use Rattle.std.specs.Prelude.{◌≡◌, ℕ, true, Result, IfOk}
 use Rattle.crawl.specs.Hosts.{KeepsInUse, is_in_use}
-use Rattle.crawl.specs.declared.crawl.hosts.Hosts.{Hosts}
-use Rattle.crawl.specs.declared.crawl.placed.Placed.{Placed}
-use Rattle.crawl.specs.declared.crawl.placed.Placed.TheVariants.{At}
+use Rattle.crawl.specs.declared.hosts.Hosts.{Hosts}
+use Rattle.crawl.specs.declared.placed.Placed.{Placed}
+use Rattle.crawl.specs.declared.placed.Placed.TheVariants.{At}
 
 -- this is true of the place, if there is one
 abbrev pub IfAt : (ℕ → Type 0) → Placed → Type 0

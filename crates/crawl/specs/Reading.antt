@@ -7,10 +7,10 @@ use Rattle.client.specs.FileLines.{KnowsEnd, LinesShown, ReadsFile, lines_shown}
 use Rattle.commands.specs.Given.{url_texts}
 use Rattle.client.specs.Lines.{Text}
 use Rattle.commands.specs.Urls.{IsBadText}
-use Rattle.crawl.specs.declared.crawl.fault.CrawlFault.{CrawlFault}
-use Rattle.crawl.specs.declared.crawl.fault.CrawlFault.TheVariants as faults
-use Rattle.crawl.specs.declared.crawl.queue.Queue.{Queue}
-use Rattle.crawl.specs.declared.crawl.queued.Queued.{Queued}
+use Rattle.crawl.specs.declared.fault.CrawlFault.{CrawlFault}
+use Rattle.crawl.specs.declared.fault.CrawlFault.TheVariants as faults
+use Rattle.crawl.specs.declared.queue.Queue.{Queue}
+use Rattle.crawl.specs.declared.queued.Queued.{Queued}
 use Rattle.commands.specs.declared.crawl_options.CrawlOptions.{CrawlOptions}
 use Rattle.commands.specs.declared.crawl_options.UrlFile.{UrlFile}
 use Rattle.commands.specs.declared.crawl_options.UrlFile.TheVariants as files

@@ -8,7 +8,7 @@ use Rattle.run_loop.specs.Taking.{JobResult}
 use Rattle.client.specs.Lines.{Text}
 use Rattle.commands.specs.Urls.{IsBadText}
 use Rattle.crawl.specs.Written.{Written}
-use Rattle.crawl.specs.declared.crawl.in_flight.InFlight.{InFlight}
+use Rattle.crawl.specs.declared.in_flight.InFlight.{InFlight}
 use Rattle.commands.specs.declared.crawl_options.CrawlOptions.{CrawlOptions}
 
 -- the request to the cache for the transfer of that number, with the limits of the options

@@ -5,10 +5,10 @@ use Rattle.client.specs.FileLines.{lines_shown}
 use Rattle.client.specs.Lines.{Text}
 use Rattle.crawl.specs.Reading.{url_queued}
 use Rattle.crawl.specs.Steps.{IsJobOf}
-use Rattle.crawl.specs.declared.crawl.in_flight.InFlight.{InFlight}
-use Rattle.crawl.specs.declared.crawl.queue.Queue.{Queue}
-use Rattle.crawl.specs.declared.crawl.queued.Queued.{Queued}
-use Rattle.crawl.specs.declared.crawl.window.Window.{Window}
+use Rattle.crawl.specs.declared.in_flight.InFlight.{InFlight}
+use Rattle.crawl.specs.declared.queue.Queue.{Queue}
+use Rattle.crawl.specs.declared.queued.Queued.{Queued}
+use Rattle.crawl.specs.declared.window.Window.{Window}
 use Rattle.commands.specs.declared.crawl_options.CrawlOptions.{CrawlOptions}
 
 -- the transfer of that URL begins, with its job and the next number

@@ -13,9 +13,9 @@ use Rattle.streams.specs.declared.stream_fault.StreamFault.{StreamFault}
 use Rattle.streams.specs.declared.stream_fault.StreamFault.TheVariants.{Memory, Write}
 use Rattle.client.specs.Lines.{Text, fetched_as, line_of}
 use Rattle.crawl.specs.Results.{TakesAll}
-use Rattle.crawl.specs.declared.crawl.in_flight.InFlight.{InFlight}
-use Rattle.crawl.specs.declared.crawl.in_flight.Tally.{Tally}
-use Rattle.crawl.specs.declared.crawl.progress.Progress.{Progress}
+use Rattle.crawl.specs.declared.in_flight.InFlight.{InFlight}
+use Rattle.crawl.specs.declared.in_flight.Tally.{Tally}
+use Rattle.crawl.specs.declared.progress.Progress.{Progress}
 use Rattle.commands.specs.declared.crawl_options.CrawlFlags.{CrawlFlags}
 
 -- a line: its URL, the result of its transfer, or none if the URL is bad, and its text

@@ -2,11 +2,30 @@
 #![tactic(auto)]
 
 mod crawl;
+mod crawler;
+mod fault;
+mod host_cache;
+mod hosts;
+mod in_flight;
+mod jobs;
+mod json;
+mod line;
+mod loop_crawler;
+mod network;
+mod output;
+mod placed;
+mod progress;
+mod queue;
+mod queued;
+mod route;
+mod signals;
+mod timer;
+mod window;
 
 pub use crawl::{Crawl, Crawled};
-pub use crawl::crawler::{Crawler, Signals};
-pub use crawl::fault::{CrawlFault, NetworkFault};
-pub use crawl::host_cache::{HostCache, HostDial};
-pub use crawl::in_flight::Tally;
-pub use crawl::loop_crawler::LoopCrawler;
-pub use crawl::network::Network;
+pub use crawler::{Crawler, Signals};
+pub use fault::{CrawlFault, NetworkFault};
+pub use host_cache::{HostCache, HostDial};
+pub use in_flight::Tally;
+pub use loop_crawler::LoopCrawler;
+pub use network::Network;

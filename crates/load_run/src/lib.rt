@@ -19,7 +19,6 @@ mod wait_sum;
 mod watch;
 
 pub use error::LoadError;
-pub use load::run_load;
 pub use load::failure::LoadFailure;
 pub use load::fault::LoadFault;
 pub use load::outcome::LoadOutcome;

@@ -84,7 +84,7 @@ impl<'s, 'a: 's, H: Wait + RandomSource + AllocGlobal> Network for SystemNetwork
             Ok(task) => task,
             Err(error) => return Err(fault_of(&error)),
         };
-        match LoopCrawler::new(self.waits, alloc, options, pool, dial, clock, task) {
+        match LoopCrawler::new(self.waits, options, pool, dial, clock, task) {
             Ok(crawler) => Ok(crawler),
             Err(_) => Err(NetworkFault::Memory),
         }

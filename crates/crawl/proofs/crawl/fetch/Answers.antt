@@ -1,6 +1,6 @@
 -- The output takes the results that arrived.
 use Rattle.crawl.specs.Written.{output_shown}
-use Rattle.crawl.specs.declared.crawl.output.Output.{Output}
+use Rattle.crawl.specs.declared.output.Output.{Output}
 use Rattle.crawl.proofs.Taken.{shown_all}
 use Rattle.crawl.proofs.crawl.fetch.Goals as goal
 

@@ -6,7 +6,7 @@ use Rattle.crawl.specs.Faults.{CanEnd}
 use Rattle.crawl.specs.Reading.{queue_shown}
 use Rattle.crawl.specs.Written.{output_shown}
 use Rattle.crawl.specs.declared.crawl.Step.TheVariants.{Read, End}
-use Rattle.crawl.specs.declared.crawl.fault.CrawlFault.{CrawlFault}
+use Rattle.crawl.specs.declared.fault.CrawlFault.{CrawlFault}
 use Rattle.commands.specs.declared.crawl_options.CrawlOptions.{CrawlOptions}
 use Rattle.crawl.proofs.Finished.{end_from, fault_is, fetched_here, fetches_begun, step_from, stopped_here}
 use Rattle.crawl.proofs.Taken.{name_all}

@@ -3,7 +3,7 @@ use Rattle.std.proofs.Common.{◌∙◌, refl, subst, sym, [], None}
 use Rattle.crawl.specs.Crawling.{Crawls, crawl_given, queue_given}
 use Rattle.crawl.specs.Reading.{queue_shown}
 use Rattle.crawl.specs.Written.{output_shown}
-use Rattle.crawl.specs.declared.crawl.output.Output.{Output}
+use Rattle.crawl.specs.declared.output.Output.{Output}
 use Rattle.crawl.proofs.Finished.{ends_so, never_opened}
 use Rattle.crawl.proofs.Positions.{at_first, at_same}
 use Rattle.crawl.proofs.Taken.{name_all, shown_all}
