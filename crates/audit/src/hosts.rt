@@ -41,17 +41,17 @@ pub(crate) enum Breach {
     Beside(Rule),
 }
 
-/// What an event of a trace becomes.
+/// The events of a log that an event of a trace becomes.
 #[derive(Clone, Copy)]
-pub(crate) struct Becomes {
+pub(crate) struct LogEvents {
     pub site: u32,
     pub moment: u64,
     /// The event of the host's log.
     pub event: Event,
-    /// The event that follows it there.
-    pub behind: Option<Event>,
-    /// The rule that it breaks beside the log.
-    pub beside: Option<Rule>,
+    /// The close that the log owes behind it.
+    pub owed_close: Option<Event>,
+    /// The rule that it breaks and that the log cannot tell of.
+    pub extra_rule: Option<Rule>,
 }
 
 /// The hosts of a trace by their indices.
@@ -163,14 +163,14 @@ fn read_at(
         return Ok(Outcome::HeldBack);
     }
     let next = tables.next();
-    let becomes = Becomes {
+    let events = LogEvents {
         site: traced.host,
         moment: traced.moment,
         event: event_of(event, known, next, want),
-        behind: close_behind(event, known),
-        beside: beside_log(traced.host, event, known),
+        owed_close: close_behind(event, known),
+        extra_rule: beside_log(traced.host, event, known),
     };
-    match take(monitor, &becomes)? {
+    match take(monitor, &events)? {
         Some(breach) => {
             let case = Case {
                 traced,
@@ -190,13 +190,13 @@ fn read_at(
 }
 
 /// Takes the events that an event of a trace becomes, if it breaks no rule, or tells why not.
-fn take(monitor: &mut Monitor, becomes: &Becomes) -> Result<Option<Breach>, AuditFault>
-    requires there { becomes.now.site < length monitor.old.hosts }
-    ensures breach { let e = entry_at becomes.now.moment becomes.now.event in
+fn take(monitor: &mut Monitor, events: &LogEvents) -> Result<Option<Breach>, AuditFault>
+    requires there { events.now.site < length monitor.old.hosts }
+    ensures breach { let e = entry_at events.now.moment events.now.event in
         IfOk result (λ breach. breach
-        ≡ breach_of (host_at monitor.old becomes.now.site) e becomes.now.beside) }
+        ≡ breach_of (host_at monitor.old events.now.site) e events.now.extra_rule) }
     ensures taken { IfOk result (λ breach. IfNone breach
-        (IsTaken becomes.now.site becomes.now.moment becomes.now.event becomes.now.behind
+        (IsTaken events.now.site events.now.moment events.now.event events.now.owed_close
         monitor.old monitor.new)) }
     ensures refused { IfOk result (λ breach. IfSome breach (λ _. monitor.new ≡ monitor.old)) }
     ensures memory { IfErr result (λ fault. fault ≡ AuditFault.Memory) }
@@ -204,16 +204,16 @@ fn take(monitor: &mut Monitor, becomes: &Becomes) -> Result<Option<Breach>, Audi
     ensures count { length monitor.new.hosts ≡ length monitor.old.hosts }
 {
     let entry = Entry {
-        moment: becomes.moment,
-        event: becomes.event,
+        moment: events.moment,
+        event: events.event,
     };
-    match becomes.beside {
-        Some(rule) => Ok(Some(match monitor.host(becomes.site).first_broken(&entry) {
+    match events.extra_rule {
+        Some(rule) => Ok(Some(match monitor.host(events.site).first_broken(&entry) {
             Some(violation) => Breach::InLog(violation),
             None => Breach::Beside(rule),
         })),
-        None => match monitor.step(becomes.site, entry) {
-            Ok(()) => take_behind(monitor, becomes),
+        None => match monitor.step(events.site, entry) {
+            Ok(()) => take_owed_close(monitor, events),
             Err(Fault::Broken(violation)) => Ok(Some(Breach::InLog(violation))),
             Err(Fault::Memory) => Err(AuditFault::Memory),
         },
@@ -221,20 +221,20 @@ fn take(monitor: &mut Monitor, becomes: &Becomes) -> Result<Option<Breach>, Audi
 }
 
 /// Takes the close that follows an event that was taken.
-fn take_behind(monitor: &mut Monitor, becomes: &Becomes) -> Result<Option<Breach>, AuditFault>
-    requires there { becomes.now.site < length monitor.old.hosts }
-    ensures taken { OnOk result (monitor.new ≡ and_behind becomes.now.site becomes.now.moment
-        becomes.now.behind monitor.old) }
+fn take_owed_close(monitor: &mut Monitor, events: &LogEvents) -> Result<Option<Breach>, AuditFault>
+    requires there { events.now.site < length monitor.old.hosts }
+    ensures taken { OnOk result (monitor.new ≡ and_behind events.now.site events.now.moment
+        events.now.owed_close monitor.old) }
     ensures none { IfOk result (λ breach. breach ≡ None) }
     ensures memory { IfErr result (λ fault. fault ≡ AuditFault.Memory) }
     ensures legal { AreLegal monitor.old → AreLegal monitor.new }
     ensures count { length monitor.new.hosts ≡ length monitor.old.hosts }
 {
-    let Some(event) = becomes.behind else {
+    let Some(event) = events.owed_close else {
         return Ok(None);
     };
-    let moment = becomes.moment;
-    match monitor.step(becomes.site, Entry { moment, event }) {
+    let moment = events.moment;
+    match monitor.step(events.site, Entry { moment, event }) {
         Ok(()) => Ok(None),
         // It is the close that is owed, and needs no memory.
         Err(_) => Err(AuditFault::Memory),

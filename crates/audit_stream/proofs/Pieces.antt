@@ -5,7 +5,7 @@ use Rattle.std.proofs.KnownBytes.{Consumes-nil, Consumes-trans}
 use Rattle.streams.specs.Streams.{Stream}
 use Rattle.audit_stream.specs.declared.stop.AuditStop.{AuditStop}
 use Rattle.audit_stream.specs.Audits.{Judges, ReadsAll, ReadsMore, ReadsPart, ReadsStream, verdict_on}
-use Rattle.audit_stream.specs.declared.telling.Verdict.{Verdict}
+use Rattle.audit_stream.specs.declared.audit_output.Verdict.{Verdict}
 use Rattle.audit_stream.specs.Reading.{EndsText, ReadsUpTo, StopsWithin}
 use Rattle.audit_stream.specs.Tells.{Told, nothing_told}
 use Rattle.audit_stream.specs.Writing.{failed_reads, reads_of}

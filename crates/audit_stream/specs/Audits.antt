@@ -4,9 +4,9 @@ use Rattle.std.specs.Io.KnownBytes.{Consumes, IsAtEnd}
 use Rattle.streams.specs.Streams.{Stream}
 use Rattle.audit_stream.specs.declared.stop.AuditStop.{AuditStop}
 use Rattle.audit_stream.specs.declared.stop.AuditStop.TheVariants.{Memory, Read}
-use Rattle.audit_stream.specs.declared.telling.Telling.{Telling}
-use Rattle.audit_stream.specs.declared.telling.Verdict.{Verdict}
-use Rattle.audit_stream.specs.declared.telling.Verdict.TheVariants.{Lawful, Broken}
+use Rattle.audit_stream.specs.declared.audit_output.AuditOutput.{AuditOutput}
+use Rattle.audit_stream.specs.declared.audit_output.Verdict.{Verdict}
+use Rattle.audit_stream.specs.declared.audit_output.Verdict.TheVariants.{Lawful, Broken}
 use Rattle.audit_stream.specs.Tells.{Told, nothing_told}
 use Rattle.audit_stream.specs.Reading.{Finishes, StopsAtFirst}
 use Rattle.audit_stream.specs.Writing.{WritesFor, reads_of, writes_of}
@@ -54,16 +54,16 @@ Judges all unread left (Ok verdict) = (told : Told) × ReadsStream all unread le
 Judges all unread left (Err stop) = ReadsPart unread left stop
 
 -- a trace is judged, and the answer written
-pub record AuditsStream (telling : Telling) (unread left old new : Stream) (result : Result Verdict AuditStop) : Type 0 where
+pub record AuditsStream (telling : AuditOutput) (unread left old new : Stream) (result : Result Verdict AuditStop) : Type 0 where
   pub judges : Judges telling.all unread left result
   pub writes : WritesFor old new result
 
 -- the trace in a file that was opened is judged; one that could not be opened can't be read
-abbrev pub AuditsOpened : Telling → Option Stream → Stream → Stream → Result Verdict AuditStop → Type 0
+abbrev pub AuditsOpened : AuditOutput → Option Stream → Stream → Stream → Result Verdict AuditStop → Type 0
 AuditsOpened telling None old new result = (result ≡ Err Read) × (new ≡ old)
 AuditsOpened telling (Some unread) old new result = (left : Stream) × AuditsStream telling unread left old new result
 
-pub record AuditsFile (Opens : Option Stream → Type 0) (telling : Telling) (old new : Stream) (result : Result Verdict AuditStop) : Type 0 where
+pub record AuditsFile (Opens : Option Stream → Type 0) (telling : AuditOutput) (old new : Stream) (result : Result Verdict AuditStop) : Type 0 where
   pub opened : Option Stream
   pub opens : Opens opened
   pub audits : AuditsOpened telling opened old new result

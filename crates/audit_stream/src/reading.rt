@@ -8,10 +8,10 @@ ghost use Rattle.audit_stream.specs.Runs.{told_by};
 ghost use Rattle.audit_stream.specs.Tells.{TellsLine};
 ghost use Rattle.audit_stream.specs.Writing.{WritesAlone, WritesFor};
 
+use crate::audit_output::{AuditOutput, Verdict};
 use crate::line_ends::complete_line;
 use crate::stop::AuditStop;
 use crate::teller::Teller;
-use crate::telling::{Telling, Verdict};
 use audit::{Audit, AuditFault};
 use script_text::{FaultKind, LINE_LIMIT};
 use std::alloc::Global;
@@ -27,7 +27,7 @@ pub fn audit_file<F: Files, W: Sink>(
     alloc: Global,
     files: &mut F,
     name: &str,
-    telling: Telling,
+    telling: AuditOutput,
     output: &mut W,
 ) -> Result<Verdict, AuditStop>
     requires { CanCount (W.sink output.old) }
@@ -46,7 +46,7 @@ pub fn audit_file<F: Files, W: Sink>(
 pub fn audit_stream<R: Source, W: Sink>(
     alloc: Global,
     name: &str,
-    telling: Telling,
+    telling: AuditOutput,
     reader: &mut R,
     output: &mut W,
 ) -> Result<Verdict, AuditStop>

@@ -4,9 +4,9 @@ ghost use Rattle.audit_stream.specs.Tells.{told_after};
 ghost use Rattle.audit_stream.specs.Writing.{WritesAlone};
 ghost use Rattle.audit_stream.specs.Audits.{verdict_on};
 
+use crate::audit_output::{AuditOutput, Verdict};
 use crate::json::{AuditJson, FindingJson};
 use crate::stop::AuditStop;
-use crate::telling::{Telling, Verdict};
 use audit::{Audit, Finding, FindingLines, LawfulLine, PassedByLine};
 use std::alloc::{AllocError, Global};
 use std::fmt::Write;
@@ -18,7 +18,7 @@ pub(crate) struct Teller<'a> {
     alloc: Global,
     /// The trace's name.
     name: &'a str,
-    telling: Telling,
+    telling: AuditOutput,
     /// Whether a rule is broken.
     is_broken: bool,
     /// The violations, if they are told as JSON.
@@ -27,7 +27,7 @@ pub(crate) struct Teller<'a> {
 
 impl<'a> Teller<'a> {
     /// One of that trace, in which no violation was found yet.
-    pub(crate) fn new(alloc: Global, name: &'a str, telling: Telling) -> Teller<'a>
+    pub(crate) fn new(alloc: Global, name: &'a str, telling: AuditOutput) -> Teller<'a>
         ensures telling { result.telling ≡ telling }
         ensures none { result.is_broken ≡ false }
     {

@@ -1,7 +1,7 @@
 //! Audits of traces that come piece by piece, and answers that cannot be written.
 
 use crate::running::{ROW, Row, Text, check_stopped};
-use audit_stream::{AuditStop, Telling, Verdict, audit_stream};
+use audit_stream::{AuditStop, AuditOutput, Verdict, audit_stream};
 use std::alloc::{AllocError, Global};
 use std::fmt::Write;
 use std::io::Read;
@@ -47,7 +47,7 @@ fn answers_that_cannot_be_written(rt: HostRuntime) {
 }
 
 /// How violations are told if no flag is given.
-const PLAIN: Telling = Telling {
+const PLAIN: AuditOutput = AuditOutput {
     all: false,
     json: false,
     state: false,

@@ -7,7 +7,7 @@ ghost use Rattle.command_line.specs.Inputs.{AreAuditWords};
 use crate::input::{Input, input_of};
 use crate::options::{ALL, AUDIT_FILE, AUDIT_JSON, STATE};
 use crate::values::{flag, text_of};
-use audit_stream::Telling;
+use audit_stream::AuditOutput;
 use clap::ArgMatches;
 use std::alloc::{AllocError, Global};
 
@@ -15,7 +15,7 @@ use std::alloc::{AllocError, Global};
 #[derive(Drop)]
 pub struct AuditWords {
     /// How violations are reported.
-    pub telling: Telling,
+    pub telling: AuditOutput,
     /// The trace.
     pub input: Input,
 }
@@ -29,7 +29,7 @@ pub(crate) fn audit_words(alloc: Global, given: &ArgMatches<'_>) -> Result<Audit
     ensures { IfOk result (AreAuditWords (rows_of (found_of given.now))) }
 {
     Ok(AuditWords {
-        telling: Telling {
+        telling: AuditOutput {
             all: flag(given, &ALL),
             json: flag(given, &AUDIT_JSON),
             state: flag(given, &STATE),

@@ -18,14 +18,14 @@ use Rattle.crawl.specs.Reading.{AddsUrl, QueueShown, Reads, TakesOut, url_queued
 use Rattle.crawl.specs.Results.{HaveNumbers}
 use Rattle.commands.specs.Urls.{IsBadText}
 use Rattle.crawl.specs.declared.route.Route.TheVariants.{Bad}
-use Rattle.crawl.specs.Windows.{Begins, BeginsOrWaits, Waits}
+use Rattle.crawl.specs.Batches.{Begins, BeginsOrWaits, Waits}
 use Rattle.crawl.specs.Steps.{IsJobOf}
 use Rattle.crawl.specs.Written.{url_in_flight, urls_in_flight}
 use Rattle.crawl.specs.declared.fault.CrawlFault.{CrawlFault}
 use Rattle.crawl.specs.declared.fault.CrawlFault.TheVariants as faults
 use Rattle.crawl.specs.declared.in_flight.InFlight.{InFlight}
 use Rattle.crawl.specs.declared.queued.Queued.{Queued}
-use Rattle.crawl.specs.declared.window.Window.{Window}
+use Rattle.crawl.specs.declared.batch.Batch.{Batch}
 use Rattle.commands.specs.declared.crawl_options.CrawlOptions.{CrawlOptions}
 use Rattle.commands.specs.declared.crawl_options.UrlFile.TheVariants as files
 use Rattle.commands.specs.declared.url.CrawlUrl.{CrawlUrl}
@@ -158,32 +158,32 @@ zip_push R [] (b ∷ ys) x y are is = absurd are
 zip_push R (a ∷ xs) [] x y are is = absurd are
 zip_push R (a ∷ xs) (b ∷ ys) x y are is = (are.0, zip_push R xs ys x y are.1 is)
 
--- a window in the making: each URL of the queue has begun with its job, waits, or is still queued
-pub record IsWindow (options : CrawlOptions) (was : List Queued) (free first : ℕ) (window : Window) (queued : List Queued) (next : ℕ) : Type 0 where
-  pub each : IsPermutation (urls_queued was) (urls_in_flight window.transfers.items ++ (urls_queued window.waiting.items ++ urls_queued queued))
-  pub order : options.parallel ≡ 1 → urls_queued was ≡ urls_in_flight window.transfers.items ++ (urls_queued window.waiting.items ++ urls_queued queued)
-  pub jobs : AllZip (IsJobOf options) window.jobs.items window.transfers.items
-  pub numbered : HaveNumbers first next window.jobs.items
-  pub few : length window.transfers.items ≤ free
+-- a batch in the making: each URL of the queue has begun with its job, waits, or is still queued
+pub record IsBatch (options : CrawlOptions) (was : List Queued) (free first : ℕ) (batch : Batch) (queued : List Queued) (next : ℕ) : Type 0 where
+  pub each : IsPermutation (urls_queued was) (urls_in_flight batch.transfers.items ++ (urls_queued batch.waiting.items ++ urls_queued queued))
+  pub order : options.parallel ≡ 1 → urls_queued was ≡ urls_in_flight batch.transfers.items ++ (urls_queued batch.waiting.items ++ urls_queued queued)
+  pub jobs : AllZip (IsJobOf options) batch.jobs.items batch.transfers.items
+  pub numbered : HaveNumbers first next batch.jobs.items
+  pub few : length batch.transfers.items ≤ free
 
 module _ (options : CrawlOptions) (was : List Queued) (free first : ℕ) where
   -- none begins yet
-  pub window_none : (window : Window) (queued : List Queued) → queued ≡ was → window.jobs.items ≡ [] → window.transfers.items ≡ [] → window.waiting.items ≡ [] → IsWindow options was free first window queued first
-  window_none window queued same jobs urls waiting = record {
-    each = subst (λ (us : List InFlight). IsPermutation (urls_queued was) (urls_in_flight us ++ (urls_queued window.waiting.items ++ urls_queued queued))) (sym urls)
+  pub batch_none : (batch : Batch) (queued : List Queued) → queued ≡ was → batch.jobs.items ≡ [] → batch.transfers.items ≡ [] → batch.waiting.items ≡ [] → IsBatch options was free first batch queued first
+  batch_none batch queued same jobs urls waiting = record {
+    each = subst (λ (us : List InFlight). IsPermutation (urls_queued was) (urls_in_flight us ++ (urls_queued batch.waiting.items ++ urls_queued queued))) (sym urls)
         (subst (λ (ws : List Queued). IsPermutation (urls_queued was) (urls_queued ws ++ urls_queued queued)) (sym waiting)
         (subst (λ (qs : List Queued). IsPermutation (urls_queued was) (urls_queued qs)) (sym same) (IsPermutation-refl (urls_queued was))));
     order = λ p. ap urls_queued (sym same) ∙ ap (λ (ws : List Queued). urls_queued ws ++ urls_queued queued) (sym waiting)
-        ∙ ap (λ (us : List InFlight). urls_in_flight us ++ (urls_queued window.waiting.items ++ urls_queued queued)) (sym urls);
-    jobs = subst (λ (js : List Job). AllZip (IsJobOf options) js window.transfers.items) (sym jobs) (subst (λ (us : List InFlight). AllZip (IsJobOf options) [] us) (sym urls) tt);
+        ∙ ap (λ (us : List InFlight). urls_in_flight us ++ (urls_queued batch.waiting.items ++ urls_queued queued)) (sym urls);
+    jobs = subst (λ (js : List Job). AllZip (IsJobOf options) js batch.transfers.items) (sym jobs) (subst (λ (us : List InFlight). AllZip (IsJobOf options) [] us) (sym urls) tt);
     numbered = subst (HaveNumbers first first) (sym jobs) (record { numbers = refl; after = omega arith });
     few = subst (λ (us : List InFlight). length us ≤ free) (sym urls) (omega arith);
   }
 
   -- the next URL begins
-  window_begins : (old new : Window) (one : Queued) (rest : List Queued) (number next : ℕ) → IsWindow options was free first old (one ∷ rest) number → (options.parallel ≡ 1 → old.waiting.items ≡ []) → length old.transfers.items < free → Begins options (url_queued one) number next old new
-      → IsWindow options was free first new rest next
-  window_begins old new one rest number next w in_turn room b =
+  batch_begins : (old new : Batch) (one : Queued) (rest : List Queued) (number next : ℕ) → IsBatch options was free first old (one ∷ rest) number → (options.parallel ≡ 1 → old.waiting.items ≡ []) → length old.transfers.items < free → Begins options (url_queued one) number next old new
+      → IsBatch options was free first new rest next
+  batch_begins old new one rest number next w in_turn room b =
       let begun = urls_in_flight old.transfers.items in
       let waiting = urls_queued old.waiting.items in
       let left = urls_queued rest in
@@ -206,8 +206,8 @@ module _ (options : CrawlOptions) (was : List Queued) (free first : ℕ) where
       }
 
   -- the next URL waits
-  window_waits : (old new : Window) (one : Queued) (rest : List Queued) (number next : ℕ) → IsWindow options was free first old (one ∷ rest) number → Waits (url_queued one) number next old new → IsWindow options was free first new rest next
-  window_waits old new one rest number next w b =
+  batch_waits : (old new : Batch) (one : Queued) (rest : List Queued) (number next : ℕ) → IsBatch options was free first old (one ∷ rest) number → Waits (url_queued one) number next old new → IsBatch options was free first new rest next
+  batch_waits old new one rest number next w b =
       let begun = urls_in_flight old.transfers.items in
       let waiting = urls_queued old.waiting.items in
       let left = urls_queued rest in
@@ -224,18 +224,18 @@ module _ (options : CrawlOptions) (was : List Queued) (free first : ℕ) where
         few = subst (λ (us : List InFlight). length us ≤ free) (sym b.transfers) w.few;
       }
 
-  pub window_on : (old new : Window) (one : Queued) (queued rest : List Queued) (number next : ℕ) → queued ≡ one ∷ rest → IsWindow options was free first old queued number → (options.parallel ≡ 1 → old.waiting.items ≡ []) → length old.transfers.items < free
-      → BeginsOrWaits options (url_queued one) number next old new → IsWindow options was free first new rest next
-  window_on old new one queued rest number next is w in_turn room (inl b) = window_begins old new one rest number next (subst (λ (qs : List Queued). IsWindow options was free first old qs number) is w) in_turn room b
-  window_on old new one queued rest number next is w in_turn room (inr b) = window_waits old new one rest number next (subst (λ (qs : List Queued). IsWindow options was free first old qs number) is w) b
+  pub batch_on : (old new : Batch) (one : Queued) (queued rest : List Queued) (number next : ℕ) → queued ≡ one ∷ rest → IsBatch options was free first old queued number → (options.parallel ≡ 1 → old.waiting.items ≡ []) → length old.transfers.items < free
+      → BeginsOrWaits options (url_queued one) number next old new → IsBatch options was free first new rest next
+  batch_on old new one queued rest number next is w in_turn room (inl b) = batch_begins old new one rest number next (subst (λ (qs : List Queued). IsBatch options was free first old qs number) is w) in_turn room b
+  batch_on old new one queued rest number next is w in_turn room (inr b) = batch_waits old new one rest number next (subst (λ (qs : List Queued). IsBatch options was free first old qs number) is w) b
 
--- the URLs of the window leave the queue
-pub window_takes : (options : CrawlOptions) (was queued : List Queued) (window : Window) (free first next : ℕ) (old new : QueueShown) → IsWindow options was free first window queued next
-    → old.queued ≡ urls_queued was → new.queued ≡ urls_queued (window.waiting.items ++ queued) → old.options ≡ options → new.left ≡ old.left → new.lines ≡ old.lines → new.options ≡ old.options → new.file ≡ old.file
-    → TakesOut (urls_in_flight window.transfers.items) old new
-window_takes options was queued window free first next old new w before after is left lines same file =
-    let begun = urls_in_flight window.transfers.items in
-    let rest : new.queued ≡ urls_queued window.waiting.items ++ urls_queued queued = after ∙ map-append url_queued window.waiting.items queued in
+-- the URLs of the batch leave the queue
+pub batch_takes : (options : CrawlOptions) (was queued : List Queued) (batch : Batch) (free first next : ℕ) (old new : QueueShown) → IsBatch options was free first batch queued next
+    → old.queued ≡ urls_queued was → new.queued ≡ urls_queued (batch.waiting.items ++ queued) → old.options ≡ options → new.left ≡ old.left → new.lines ≡ old.lines → new.options ≡ old.options → new.file ≡ old.file
+    → TakesOut (urls_in_flight batch.transfers.items) old new
+batch_takes options was queued batch free first next old new w before after is left lines same file =
+    let begun = urls_in_flight batch.transfers.items in
+    let rest : new.queued ≡ urls_queued batch.waiting.items ++ urls_queued queued = after ∙ map-append url_queued batch.waiting.items queued in
     record {
       each = subst (λ (l : List Text). IsPermutation l (begun ++ new.queued)) (sym before) (subst (λ (l : List Text). IsPermutation (urls_queued was) (begun ++ l)) (sym rest) w.each);
       order = λ p. before ∙ w.order (ap (λ (o : CrawlOptions). o.parallel) (sym is) ∙ p) ∙ ap (λ (l : List Text). begun ++ l) (sym rest);
@@ -247,13 +247,13 @@ window_takes options was queued window free first next old new w before after is
 
 module _ {A E : Type 0} where
   -- a URL waits
-  pub waiting_on : (r : Result A E) (options : CrawlOptions) (url : Text) (one : Queued) (number next : ℕ) (old new : Window) → url_queued one ≡ url → next ≡ number → OnOk r (new.waiting.items ≡ old.waiting.items ++ one ∷ [])
+  pub waiting_on : (r : Result A E) (options : CrawlOptions) (url : Text) (one : Queued) (number next : ℕ) (old new : Batch) → url_queued one ≡ url → next ≡ number → OnOk r (new.waiting.items ≡ old.waiting.items ++ one ∷ [])
       → new.jobs.items ≡ old.jobs.items → new.transfers.items ≡ old.transfers.items → OnOk r (BeginsOrWaits options url number next old new)
   waiting_on (Ok done) options url one number next old new its same waiting jobs transfers = inr (record { one = one; its_url = its; next_is = same; jobs = jobs; transfers = transfers; waiting = waiting })
   waiting_on (Err error) options url one number next old new its same waiting jobs transfers = tt
 
   -- an added transfer begins
-  pub begun_on : (r : Result A E) (options : CrawlOptions) (url : Text) (job : Job) (one : InFlight) (next : ℕ) (old new : Window) → string_bytes one.url ≡ url → IsJobOf options job one → next ≡ one.number + 1 → OnOk r (new.jobs.items ≡ old.jobs.items ++ job ∷ [])
+  pub begun_on : (r : Result A E) (options : CrawlOptions) (url : Text) (job : Job) (one : InFlight) (next : ℕ) (old new : Batch) → string_bytes one.url ≡ url → IsJobOf options job one → next ≡ one.number + 1 → OnOk r (new.jobs.items ≡ old.jobs.items ++ job ∷ [])
       → OnOk r (new.transfers.items ≡ old.transfers.items ++ one ∷ []) → new.waiting.items ≡ old.waiting.items → OnOk r (Begins options url one.number next old new)
   begun_on (Ok done) options url job one next old new its is more jobs transfers waiting = record { job = job; one = one; its_url = its; its = is; its_number = refl; next_is = more; jobs = jobs; transfers = transfers; waiting = waiting }
   begun_on (Err error) options url job one next old new its is more jobs transfers waiting = tt

@@ -8,5 +8,5 @@ pub mod Faults
 pub mod Reading
 pub mod Written
 pub mod Steps
-pub mod Windows
+pub mod Batches
 pub mod Crawling

@@ -15,6 +15,7 @@ ghost use Rattle.crawl.specs.Written.{TookAll, output_shown};
 ghost use Rattle.crawl.specs.declared.fault.CrawlFault.TheVariants as faults;
 ghost use Rattle.streams.specs.declared.stream_fault.StreamFault.TheVariants.{Read};
 
+use crate::batch::Batch;
 use crate::crawler::Crawler;
 use crate::fault::{CrawlFault, NetworkFault};
 use crate::in_flight::Tally;
@@ -23,7 +24,6 @@ use crate::output::Output;
 use crate::progress::Progress;
 use crate::queue::Queue;
 use crate::signals::CrawlSignals;
-use crate::window::Window;
 use bundle::MOST_HOSTS;
 use client::Names;
 use commands::{CrawlOptions, CrawlUrl, Resolved, UrlFile};
@@ -164,7 +164,7 @@ fn fault_of(
     }
 }
 
-// Fetches the URLs of a queue, window by window, until none is left, or a line could not be
+// Fetches the URLs of a queue, batch by batch, until none is left, or a line could not be
 // written.
 //
 // Errors: a read of the URLs failed, the network failed, or a bad URL ends the crawl.
@@ -383,12 +383,12 @@ fn begin_urls<N: Names, C: Crawler, W: Sink>(
 {
     queue.mark_in_flight(output.progress.in_flight.as_slice());
     let free = queue.room(output.progress.in_flight.len());
-    let Window {
+    let Batch {
         jobs,
         transfers,
         waiting: _,
-    } = match queue.window(free, names, crawler) {
-        Ok(window) => window,
+    } = match queue.batch(free, names, crawler) {
+        Ok(batch) => batch,
         Err(_) => return Err(OUT_OF_MEMORY),
     };
     match output.begin(transfers) {

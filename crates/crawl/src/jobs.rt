@@ -1,4 +1,4 @@
-//! The jobs of a window, as a run draws them.
+//! The jobs of a batch, as a run draws them.
 
 ghost use Rattle.std.specs.Prelude.{◌≡◌, ◌≤◌, ◌+◌, [], length, IfSome};
 ghost use Rattle.crawl.specs.Results.{first_number};
@@ -7,9 +7,9 @@ use exchange::{Job, Prepared};
 use run_loop::{Draw, Jobs};
 use std::alloc::Global;
 
-/// The jobs of a window, all due at once, with consecutive numbers.
+/// The jobs of a batch, all due at once, with consecutive numbers.
 #[derive(Drop)]
-pub(crate) struct WindowJobs<'a> {
+pub(crate) struct BatchJobs<'a> {
     alloc: Global,
     jobs: &'a [Job],
     // A job for each number that is not among them.
@@ -22,18 +22,18 @@ pub(crate) struct WindowJobs<'a> {
     ghost numbered: { first + length jobs.now ≤ 18446744073709551615 },
 }
 
-impl<'a> WindowJobs<'a> {
-    /// Makes the jobs of a window, of which none was drawn; none if their numbers would pass the
+impl<'a> BatchJobs<'a> {
+    /// Makes the jobs of a batch, of which none was drawn; none if their numbers would pass the
     /// greatest `u64`.
-    pub(crate) fn new(alloc: Global, jobs: &'a [Job], other: &'a Job) -> Option<WindowJobs<'a>>
-        ensures jobs { IfSome result (λ window. window.jobs.now ≡ jobs.now) }
-        ensures other { IfSome result (λ window. window.other.now ≡ other.now) }
-        ensures first { IfSome result (λ window. window.first ≡ first_number jobs.now) }
-        ensures none { IfSome result (λ window. window.drawn ≡ 0) }
+    pub(crate) fn new(alloc: Global, jobs: &'a [Job], other: &'a Job) -> Option<BatchJobs<'a>>
+        ensures jobs { IfSome result (λ batch. batch.jobs.now ≡ jobs.now) }
+        ensures other { IfSome result (λ batch. batch.other.now ≡ other.now) }
+        ensures first { IfSome result (λ batch. batch.first ≡ first_number jobs.now) }
+        ensures none { IfSome result (λ batch. batch.drawn ≡ 0) }
     {
         let first = first_number(jobs);
         first.checked_add(jobs.len() as u64)?;
-        Some(WindowJobs {
+        Some(BatchJobs {
             alloc,
             jobs,
             other,
@@ -43,13 +43,13 @@ impl<'a> WindowJobs<'a> {
     }
 
     /// Makes no jobs.
-    pub(crate) fn none(alloc: Global, other: &'a Job) -> WindowJobs<'a>
+    pub(crate) fn none(alloc: Global, other: &'a Job) -> BatchJobs<'a>
         ensures jobs { result.jobs.now ≡ [] }
         ensures other { result.other.now ≡ other.now }
         ensures first { result.first ≡ 0 }
         ensures none { result.drawn ≡ 0 }
     {
-        WindowJobs {
+        BatchJobs {
             alloc,
             jobs: &[],
             other,
@@ -70,20 +70,20 @@ fn first_number(jobs: &[Job]) -> u64
     }
 }
 
-impl Jobs for WindowJobs<'_> {
+impl Jobs for BatchJobs<'_> {
     ghost use Rattle.std.specs.Prelude.{◌≡◌, ◌-◌, length, slice_index_or};
     ghost use Rattle.crawl.specs.Results.{numbers_from};
 
-    ghost job_at = { λ window number. slice_index_or window.jobs.now (number - window.first)
-        window.other.now };
+    ghost job_at = { λ batch number. slice_index_or batch.jobs.now (number - batch.first)
+        batch.other.now };
 
-    ghost drawn = { λ window. numbers_from window.first window.drawn };
+    ghost drawn = { λ batch. numbers_from batch.first batch.drawn };
 
-    ghost is_over = { λ window. window.drawn ≡ length window.jobs.now };
+    ghost is_over = { λ batch. batch.drawn ≡ length batch.jobs.now };
 
-    ghost holds_none = { λ window. Unit {0} };
+    ghost holds_none = { λ batch. Unit {0} };
 
-    ghost kept = { λ window. tt };
+    ghost kept = { λ batch. tt };
 
     #[tactic(auto, using(crate::proofs::Numbers::all_below))]
     fn draw(&mut self, _now: u64) -> Draw {

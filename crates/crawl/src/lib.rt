@@ -1,6 +1,7 @@
 //! Fetches any number of URLs over one cache, many at once, and writes a line for each.
 #![tactic(auto)]
 
+mod batch;
 mod crawl;
 mod crawler;
 mod fault;
@@ -20,7 +21,6 @@ mod queued;
 mod route;
 mod signals;
 mod timer;
-mod window;
 
 pub use crawl::{Crawl, Crawled};
 pub use crawler::{Crawler, Signals};

@@ -5,7 +5,7 @@ ghost use Rattle.std.specs.Prelude.{◌≡◌, [], IfOk};
 use crate::crawler::{Crawler, Signals};
 use crate::fault::NetworkFault;
 use crate::host_cache::{HostCache, HostDial};
-use crate::jobs::WindowJobs;
+use crate::jobs::BatchJobs;
 use crate::timer::CrawlTimer;
 use commands::CrawlOptions;
 use conn_key::{Places, Target};
@@ -184,7 +184,7 @@ impl<H: Wait, W: Wire, K: HostCache<W> + Drop, D: HostDial<W> + Drop, C: MicroCl
         results: &mut R,
         signals: &S,
     ) -> Result<(), NetworkFault> {
-        let Some(mut drawn) = WindowJobs::new(self.alloc, jobs, &self.no_job) else {
+        let Some(mut drawn) = BatchJobs::new(self.alloc, jobs, &self.no_job) else {
             return Err(NetworkFault::Memory);
         };
         let has_woken = AtomicBool::new(false);
@@ -228,7 +228,7 @@ impl<H: Wait, W: Wire, K: HostCache<W> + Drop, D: HostDial<W> + Drop, C: MicroCl
             uncut: _,
             no_job,
         } = self;
-        let mut drawn = WindowJobs::none(alloc, &no_job);
+        let mut drawn = BatchJobs::none(alloc, &no_job);
         let has_woken = AtomicBool::new(false);
         let timer = CrawlTimer {
             clock: &clock,

@@ -3,6 +3,7 @@
 ghost use Rattle.std.specs.Prelude.{◌≡◌, true};
 ghost use Rattle.crawl.specs.Faults.{CanEnd, can_end};
 
+use crate::batch::Batch;
 use crate::crawl::Crawl;
 use crate::crawler::Crawler;
 use crate::fault::CrawlFault;
@@ -11,7 +12,6 @@ use crate::in_flight::InFlight;
 use crate::placed::Placed;
 use crate::queued::Queued;
 use crate::route::Route;
-use crate::window::Window;
 use client::{Line, Names, UrlLines};
 use commands::{CrawlOptions, CrawlUrl, UrlFault, UrlFile, url_target};
 use conn_key::Target;
@@ -68,8 +68,8 @@ impl Queue {
     ghost use Rattle.crawl.specs.Reading.{queue_shown, url_queued};
     ghost use Rattle.commands.specs.Given.{url_text};
     ghost use Rattle.crawl.specs.Results.{HaveNumbers};
-    ghost use Rattle.crawl.specs.Windows.{Begins, BeginsOrWaits, KeepsAll, KeepsHosts};
-    ghost use Rattle.crawl.specs.Windows.{KeepsOthers, KeepsQueue};
+    ghost use Rattle.crawl.specs.Batches.{Begins, BeginsOrWaits, KeepsAll, KeepsHosts};
+    ghost use Rattle.crawl.specs.Batches.{KeepsOthers, KeepsQueue};
     ghost use Rattle.crawl.specs.Steps.{IsJobOf, want_of};
     ghost use Rattle.conn_key.specs.Target.{GivesTarget};
     ghost use Rattle.crawl.specs.Written.{urls_in_flight};
@@ -401,51 +401,51 @@ impl Queue {
     /// # Errors
     ///
     /// There is no memory for them.
-    pub(crate) fn window<N: Names, C: Crawler>(
+    pub(crate) fn batch<N: Names, C: Crawler>(
         &mut self,
         free: usize,
         names: &N,
         crawler: &mut C,
-    ) -> Result<Window, AllocError>
+    ) -> Result<Batch, AllocError>
         requires can_go_on { C.can_go_on crawler.old }
         ensures can_go_on { C.can_go_on crawler.new }
-        ensures takes { IfOk result (λ window. TakesOut (urls_in_flight window.transfers.items)
+        ensures takes { IfOk result (λ batch. TakesOut (urls_in_flight batch.transfers.items)
             (queue_shown self.old) (queue_shown self.new)) }
         ensures stop { self.new.stop ≡ self.old.stop }
-        ensures jobs { IfOk result (λ window. AllZip (IsJobOf self.old.options)
-            window.jobs.items window.transfers.items) }
-        ensures numbers { IfOk result (λ window. HaveNumbers self.old.number self.new.number
-            window.jobs.items) }
-        ensures few { IfOk result (λ window. length window.transfers.items ≤ free) }
+        ensures jobs { IfOk result (λ batch. AllZip (IsJobOf self.old.options)
+            batch.jobs.items batch.transfers.items) }
+        ensures numbers { IfOk result (λ batch. HaveNumbers self.old.number self.new.number
+            batch.jobs.items) }
+        ensures few { IfOk result (λ batch. length batch.transfers.items ≤ free) }
         ensures keeps { KeepsInUse self.old.hosts.table self.new.hosts.table
             self.old.hosts.in_use.items self.new.hosts.in_use.items }
-        ensures in_use { IfOk result (λ window.
-            AreInUse self.new.hosts.in_use.items window.transfers.items) }
+        ensures in_use { IfOk result (λ batch.
+            AreInUse self.new.hosts.in_use.items batch.transfers.items) }
     {
-        let mut window = Window::new(self.alloc);
+        let mut batch = Batch::new(self.alloc);
         self.awaits_name = false;
-        while let Some(one) = self.next(free, &window) {
-            self.begin_or_wait(one, &mut window, names, crawler)?;
+        while let Some(one) = self.next(free, &batch) {
+            self.begin_or_wait(one, &mut batch, names, crawler)?;
         }
-        self.put_back(&mut window.waiting)?;
-        Ok(window)
+        self.put_back(&mut batch.waiting)?;
+        Ok(batch)
     }
 
     // Takes the next URL that may begin, if there is room for its transfer. It may overtake those
     // that wait unless one transfer is in flight at a time.
-    fn next(&mut self, free: usize, window: &Window) -> Option<Queued>
+    fn next(&mut self, free: usize, batch: &Batch) -> Option<Queued>
         ensures takes { self.old.queued.items ≡ option_to_list result ++ self.new.queued.items }
-        ensures room { OnSome result (length window.now.transfers.items < free) }
+        ensures room { OnSome result (length batch.now.transfers.items < free) }
         ensures first { OnSome result
-            (self.old.options.parallel ≡ 1 → window.now.waiting.items ≡ []) }
+            (self.old.options.parallel ≡ 1 → batch.now.waiting.items ≡ []) }
         ensures fewer { OnSome result
             (length self.new.queued.items < length self.old.queued.items) }
         ensures same { KeepsOthers self.old self.new }
     {
-        if window.transfers.len() >= free {
+        if batch.transfers.len() >= free {
             return None;
         }
-        if self.options.parallel == 1 && !window.waiting.is_empty() {
+        if self.options.parallel == 1 && !batch.waiting.is_empty() {
             return None;
         }
         self.queued.pop_front()
@@ -455,35 +455,35 @@ impl Queue {
     fn begin_or_wait<N: Names, C: Crawler>(
         &mut self,
         one: Queued,
-        window: &mut Window,
+        batch: &mut Batch,
         names: &N,
         crawler: &mut C,
     ) -> Result<(), AllocError>
         requires can_go_on { C.can_go_on crawler.old }
         ensures can_go_on { C.can_go_on crawler.new }
         ensures begins { OnOk result (BeginsOrWaits self.old.options (url_queued one)
-            self.old.number self.new.number window.old window.new) }
+            self.old.number self.new.number batch.old batch.new) }
         ensures same { KeepsQueue self.old self.new }
         ensures keeps { KeepsInUse self.old.hosts.table self.new.hosts.table
             self.old.hosts.in_use.items self.new.hosts.in_use.items }
         ensures in_use { OnOk result
-            (AreInUse self.old.hosts.in_use.items window.old.transfers.items
-            → AreInUse self.new.hosts.in_use.items window.new.transfers.items) }
+            (AreInUse self.old.hosts.in_use.items batch.old.transfers.items
+            → AreInUse self.new.hosts.in_use.items batch.new.transfers.items) }
     {
         let Queued { url, route } = one;
         let Route::To(target, host_key) = route else {
             let route = Route::Bad;
-            return window.wait(Queued { url, route });
+            return batch.wait(Queued { url, route });
         };
         match self
             .hosts
             .place(&target, host_key.as_str(), names, crawler)?
         {
-            Placed::At(place) => self.begin(url, target, place, window),
+            Placed::At(place) => self.begin(url, target, place, batch),
             placed => {
                 self.awaits_name |= placed == Placed::Unresolved;
                 let route = Route::To(target, host_key);
-                window.wait(Queued { url, route })
+                batch.wait(Queued { url, route })
             }
         }
     }
@@ -495,15 +495,15 @@ impl Queue {
         url: String,
         target: Target,
         place: u32,
-        window: &mut Window,
+        batch: &mut Batch,
     ) -> Result<(), AllocError>
         requires leads { ∥ GivesTarget (string_bytes url) target ∥₁ }
         ensures begins { OnOk result (Begins self.old.options (string_bytes url)
-            self.old.number self.new.number window.old window.new) }
+            self.old.number self.new.number batch.old batch.new) }
         ensures same { KeepsAll self.old self.new }
         ensures in_use { OnOk result (is_in_use self.old.hosts.in_use.items place ≡ true
-            → AreInUse self.old.hosts.in_use.items window.old.transfers.items
-            → AreInUse self.old.hosts.in_use.items window.new.transfers.items) }
+            → AreInUse self.old.hosts.in_use.items batch.old.transfers.items
+            → AreInUse self.old.hosts.in_use.items batch.new.transfers.items) }
     {
         let number = self.number;
         let Some(next) = number.checked_add(1) else {
@@ -523,7 +523,7 @@ impl Queue {
             place,
             is_unknown,
         };
-        window.add(job, transfer)
+        batch.add(job, transfer)
     }
 
     // Puts the URLs that have to wait back to the front of the queue.

@@ -5,5 +5,5 @@ use Rattle.audit.proofs.hosts.take.Goals as goal
 
 pub returns-in-Ok-clause-breach : goal.returns-in-Ok-clause-breach
 returns-in-Ok-clause-breach c =
-    let becomes = c.args.becomes.now in
-    unbroken c.take_behind.result (host_at c.args.monitor.now becomes.site) (entry_at becomes.moment becomes.event) becomes.beside c.take_behind.ensures.none c.in-Ok.ensures.legal c.in-None.is
+    let events = c.args.events.now in
+    unbroken c.take_owed_close.result (host_at c.args.monitor.now events.site) (entry_at events.moment events.event) events.extra_rule c.take_owed_close.ensures.none c.in-Ok.ensures.legal c.in-None.is

@@ -1,6 +1,6 @@
 use Rattle.std.proofs.Common.{ap, ap₂, subst, Bool}
 use Rattle.audit.specs.Audits.{Audited}
-use Rattle.audit_stream.specs.declared.telling.Telling.{Telling}
+use Rattle.audit_stream.specs.declared.audit_output.AuditOutput.{AuditOutput}
 use Rattle.audit_stream.specs.Audits.{ReadsStream}
 use Rattle.audit_stream.specs.Runs.{told_by}
 use Rattle.audit_stream.specs.Tells.{Told, nothing_told}
@@ -17,7 +17,7 @@ returns-in-Ok-read_all g c =
     let told = told_by c.read_all.new.self in
     let all = c.new-2.result.telling.all in
     let begun = ap₂ (λ (audited : Audited) (broken : Bool). let begun : Told = record { audited = audited; broken = broken } in begun) c.in-Ok.ensures.ok c.new-2.ensures.none in
-    let reads = subst (λ (all : Bool). ReadsStream all unread left nothing_told told) (ap (λ (telling : Telling). telling.all) c.new-2.ensures.telling)
+    let reads = subst (λ (all : Bool). ReadsStream all unread left nothing_told told) (ap (λ (telling : AuditOutput). telling.all) c.new-2.ensures.telling)
     (subst (λ (old : Told). ReadsStream all unread left old told) begun c.in-Ok-read_all.ensures.reads) in
     record {
       judges = judged c.args.telling.all unread left told c.finish.result reads c.finish.ensures.verdict c.finish.ensures.writes.1;

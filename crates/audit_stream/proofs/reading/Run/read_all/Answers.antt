@@ -1,7 +1,7 @@
 use Rattle.std.proofs.Common.{◌≡◌, ◌∙◌, ap, sym, subst, true, arith, ℕ, List, Bool, Bor, Option, OnOk}
 use Rattle.std.proofs.lemmas.Bool.Decides.{nat_tests}
 use Rattle.std.specs.Option.{option_map}
-use Rattle.audit_stream.specs.declared.telling.Telling.{Telling}
+use Rattle.audit_stream.specs.declared.audit_output.AuditOutput.{AuditOutput}
 use Rattle.audit_stream.specs.Audits.{ReadsAll, ReadsStream}
 use Rattle.audit_stream.specs.Reading.{EndsText, Leaves, ReadsUpTo, StopsWithin, goes_on}
 use Rattle.audit_stream.specs.Runs.{told_by}
@@ -19,7 +19,7 @@ returns-in-Ok-eq0-clause-reads g c =
     let text = c.read_piece.new.text.items in
     let so_far = so-far-piece (source c.args.reader.now) (source c.pieces.reader) (source c.read_piece.new.reader) c.pieces.text.items text c.in-Ok-eq0.field-0 old mid c.pieces.invariant.so_far c.in-Ok-eq0.ensures in
     let ends = subst (λ (bytes : List ℕ). OnOk c.read_last.result (EndsText c.pieces.self.teller.telling.all bytes mid new)) c.as_slice.ensures.value c.read_last.ensures.ends in
-    subst (λ (all : Bool). ReadsAll all (source c.args.reader.now) (source c.read_piece.new.reader) old new c.read_last.result) (ap (λ (telling : Telling). telling.all) c.pieces.invariant.same)
+    subst (λ (all : Bool). ReadsAll all (source c.args.reader.now) (source c.read_piece.new.reader) old new c.read_last.result) (ap (λ (telling : AuditOutput). telling.all) c.pieces.invariant.same)
     (so-far-last c.pieces.self.teller.telling.all (source c.args.reader.now) (source c.read_piece.new.reader) text old mid new c.read_last.result so_far (c.in-Ok-eq0.ensures.at_end (grind (arith, nat_tests))).0 ends c.read_last.ensures.writes.1)
 
 pub returns-in-Ok-eq0-clause-writes : goal.returns-in-Ok-eq0-clause-writes
@@ -48,7 +48,7 @@ returns-in-Ok-None-clause-reads g c =
     let so_far = so-far-piece unread (source c.pieces.reader) left c.pieces.text.items text c.in-Ok.field-0 old mid c.pieces.invariant.so_far c.in-Ok.ensures in
     let new = told_by c.read_complete.new.self in
     let all = c.pieces.self.teller.telling.all in
-    let all_is = ap (λ (telling : Telling). telling.all) c.pieces.invariant.same in
+    let all_is = ap (λ (telling : AuditOutput). telling.all) c.pieces.invariant.same in
     let leaves = subst (λ (found : Option (Bor (List ℕ))). Leaves all c.as_slice-in-pieces.result.now mid new (option_map (λ (rest : Bor (List ℕ)). rest.now) found)) c.in-Ok-None.field-0-is c.in-Ok-None.ensures.leaves in
     let stops = subst (λ (bytes : List ℕ). StopsWithin bytes mid new) c.as_slice-in-pieces.ensures.value leaves.1 in
     subst (λ (all : Bool). ReadsStream all unread left old new) all_is (so-far-stops all unread left text old mid new leaves.0 so_far stops)
@@ -103,7 +103,7 @@ pieces-preserved g c =
     let so_far = so-far-piece unread (source c.pieces.reader) left c.pieces.text.items text c.in-Ok.field-0 old mid c.pieces.invariant.so_far c.in-Ok.ensures in
     let new = told_by c.read_complete.new.self in
     let all = c.pieces.self.teller.telling.all in
-    let all_is = ap (λ (telling : Telling). telling.all) c.pieces.invariant.same in
+    let all_is = ap (λ (telling : AuditOutput). telling.all) c.pieces.invariant.same in
     let leaves = subst (λ (found : Option (Bor (List ℕ))). Leaves all c.as_slice-in-pieces.result.now mid new (option_map (λ (rest : Bor (List ℕ)). rest.now) found)) c.in-Ok-Some.field-0-is c.in-Ok-Some.ensures.leaves in
     let reads = subst (λ (bytes : List ℕ). ReadsUpTo bytes c.in-Ok-Some.rest.now mid new) c.as_slice-in-pieces.ensures.value leaves.0 in
     let items_is : c.swap.new.x.items ≡ c.in-Ok-Some.rest.now = rw c.swap.ensures.x_after c.in-Ok-set_to.ensures in

@@ -1,6 +1,6 @@
 use Rattle.std.proofs.Common.{◌∙◌, ap, sym, refl, inr, inl, arith}
 use Rattle.std.proofs.lemmas.Bool.Decides.{nat_tests}
-use Rattle.audit_stream.specs.declared.telling.Telling.{Telling}
+use Rattle.audit_stream.specs.declared.audit_output.AuditOutput.{AuditOutput}
 use Rattle.audit_stream.specs.Reading.{goes_on}
 use Rattle.audit_stream.specs.Runs.{told_by}
 use Rattle.audit_stream.specs.Writing.{writes_of}
@@ -16,7 +16,7 @@ loop-rest-preserved g c =
     record {
       reads = last-line c.args.text.now c.loop-rest.rest.now c.first_line.result.0.now c.first_line.result.1.now (told_by c.args.self.now) (told_by c.loop-rest.self) (told_by c.read.new.self)
           c.loop-rest.invariant.reads c.first_line.ensures.first c.in-Ok-true.ensures.tells;
-      goes = ap (λ (telling : Telling). goes_on telling.all (told_by c.read.new.self)) (sym same) ∙ sym c.in-Ok-true.ensures.goes ∙ c.in-Ok-true.field-0-test;
+      goes = ap (λ (telling : AuditOutput). goes_on telling.all (told_by c.read.new.self)) (sym same) ∙ sym c.in-Ok-true.ensures.goes ∙ c.in-Ok-true.field-0-test;
       same = same;
       writes = writes-more (sink c.args.output.now) (sink c.loop-rest.output) (sink c.read.new.output) 0 c.loop-rest.invariant.writes c.in-Ok-true.ensures.writes.0;
     }
@@ -25,7 +25,7 @@ pub returns-in-Ok-false-clause-ends : goal.returns-in-Ok-false-clause-ends
 returns-in-Ok-false-clause-ends g c =
     let all = c.args.self.now.teller.telling.all in
     let same = c.in-Ok-false.ensures.same ∙ c.loop-rest.invariant.same in
-    let stops = stopped all c.read.new.self.teller.is_broken (ap (λ (telling : Telling). goes_on telling.all (told_by c.read.new.self)) (sym same) ∙ sym c.in-Ok-false.ensures.goes ∙ c.in-Ok-false.field-0-test) in
+    let stops = stopped all c.read.new.self.teller.is_broken (ap (λ (telling : AuditOutput). goes_on telling.all (told_by c.read.new.self)) (sym same) ∙ sym c.in-Ok-false.ensures.goes ∙ c.in-Ok-false.field-0-test) in
     inr (
       stops.0,
       last-stops c.args.text.now c.loop-rest.rest.now c.first_line.result.0.now c.first_line.result.1.now (told_by c.args.self.now) (told_by c.loop-rest.self) (told_by c.read.new.self)

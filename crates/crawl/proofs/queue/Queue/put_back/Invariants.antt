@@ -1,5 +1,5 @@
 use Rattle.std.specs.Prelude.{◌≡◌, ◌++◌, length}
-use Rattle.crawl.specs.Windows.{KeepsOthers}
+use Rattle.crawl.specs.Batches.{KeepsOthers}
 use Rattle.crawl.proofs.queue.Queue.put_back.Given as goal
 
 abbrev pub decreases-loop-one : goal.decreases-loop-one

@@ -1,7 +1,7 @@
 use Rattle.std.specs.Prelude.{◌≡◌, None}
 use Rattle.streams.specs.Streams.{CanCount}
 use Rattle.crawl.specs.Reading.{Reads, queue_shown}
-use Rattle.crawl.specs.Windows.{KeepsHosts}
+use Rattle.crawl.specs.Batches.{KeepsHosts}
 use Rattle.crawl.proofs.queue.Queue.read_ahead.Given as goal
 
 abbrev pub invariant-loop : goal.invariant-loop

@@ -9,7 +9,7 @@ use std::alloc::{AllocError, Global};
 
 /// Transfers that are begun next, and the URLs that have to wait.
 #[derive(Drop)]
-pub(crate) struct Window {
+pub(crate) struct Batch {
     /// The jobs of the transfers, with consecutive numbers.
     pub(crate) jobs: Vec<Job>,
     /// The URLs of the transfers.
@@ -18,14 +18,14 @@ pub(crate) struct Window {
     pub(crate) waiting: Vec<Queued>,
 }
 
-impl Window {
-    /// Makes a window without transfers.
-    pub(crate) fn new(alloc: Global) -> Window
+impl Batch {
+    /// Makes a batch without transfers.
+    pub(crate) fn new(alloc: Global) -> Batch
         ensures jobs { result.jobs.items ≡ [] }
         ensures transfers { result.transfers.items ≡ [] }
         ensures waiting { result.waiting.items ≡ [] }
     {
-        Window {
+        Batch {
             jobs: Vec::new(alloc),
             transfers: Vec::new(alloc),
             waiting: Vec::new(alloc),

@@ -1,6 +1,6 @@
 /// How the violations of a trace are told.
 #[derive(Clone, Copy, Debug, PartialEq, Eq)]
-pub struct Telling {
+pub struct AuditOutput {
     /// Each is told, in place of the first alone.
     pub all: bool,
     /// They are told as one JSON object, in place of lines.

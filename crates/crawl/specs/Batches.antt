@@ -1,4 +1,4 @@
--- Windows of transfers that begin next, and the state that a queue keeps.
+-- Batches of transfers that begin next, and the state that a queue keeps.
 use Rattle.std.specs.Prelude.{◌≡◌, ◌⊎◌, ◌+◌, ◌++◌, ◌∷◌, [], ℕ, string_bytes}
 use Rattle.exchange.specs.declared.job.Job.{Job}
 use Rattle.client.specs.FileLines.{lines_shown}
@@ -8,11 +8,11 @@ use Rattle.crawl.specs.Steps.{IsJobOf}
 use Rattle.crawl.specs.declared.in_flight.InFlight.{InFlight}
 use Rattle.crawl.specs.declared.queue.Queue.{Queue}
 use Rattle.crawl.specs.declared.queued.Queued.{Queued}
-use Rattle.crawl.specs.declared.window.Window.{Window}
+use Rattle.crawl.specs.declared.batch.Batch.{Batch}
 use Rattle.commands.specs.declared.crawl_options.CrawlOptions.{CrawlOptions}
 
 -- the transfer of that URL begins, with its job and the next number
-pub record Begins (options : CrawlOptions) (url : Text) (number next : ℕ) (old new : Window) : Type 0 where
+pub record Begins (options : CrawlOptions) (url : Text) (number next : ℕ) (old new : Batch) : Type 0 where
   pub job : Job
   pub one : InFlight
   pub its_url : string_bytes one.url ≡ url
@@ -24,7 +24,7 @@ pub record Begins (options : CrawlOptions) (url : Text) (number next : ℕ) (old
   pub waiting : new.waiting.items ≡ old.waiting.items
 
 -- that URL waits, and no number is used
-pub record Waits (url : Text) (number next : ℕ) (old new : Window) : Type 0 where
+pub record Waits (url : Text) (number next : ℕ) (old new : Batch) : Type 0 where
   pub one : Queued
   pub its_url : url_queued one ≡ url
   pub next_is : next ≡ number
@@ -32,7 +32,7 @@ pub record Waits (url : Text) (number next : ℕ) (old new : Window) : Type 0 wh
   pub transfers : new.transfers.items ≡ old.transfers.items
   pub waiting : new.waiting.items ≡ old.waiting.items ++ (one ∷ [])
 
-abbrev pub BeginsOrWaits : CrawlOptions → Text → ℕ → ℕ → Window → Window → Type 0
+abbrev pub BeginsOrWaits : CrawlOptions → Text → ℕ → ℕ → Batch → Batch → Type 0
 BeginsOrWaits options url number next old new = Begins options url number next old new ⊎ Waits url number next old new
 
 -- hosts keep their places
