@@ -1,5 +1,5 @@
 -- The plan of the words after `get`, and the words that are refused.
-use Rattle.std.specs.Prelude.{◌≡◌, ◌⊎◌, Bool, true, false, List, [], string_bytes, Option, None, codes, unwrap_or, if◌then◌else◌}
+use Rattle.std.specs.Prelude.{◌≡◌, ◌⊎◌, true, false, List, [], string_bytes, Option, None, codes, unwrap_or}
 use Rattle.std.specs.List.{All, Any}
 use Rattle.std.specs.Option.{option_map}
 use Rattle.clap.specs.Words.{Row, Text}

@@ -1,5 +1,5 @@
 -- The URLs of a load, and their jobs.
-use Rattle.std.specs.Prelude.{◌≡◌, ◌⊎◌, ◌≤◌, ◌<◌, ℕ, false, codes, List, [], ◌∷◌, ◌++◌, length}
+use Rattle.std.specs.Prelude.{◌≡◌, ◌⊎◌, ◌≤◌, ◌<◌, codes, List, [], ◌∷◌, ◌++◌, length}
 use Rattle.std.specs.List.{Any}
 use Rattle.clap.specs.Words.{Row, Text}
 use Rattle.exchange.specs.declared.job.Job.{Job}
@@ -7,9 +7,7 @@ use Rattle.conn_key.specs.Site.{site_of}
 use Rattle.conn_key.specs.Sites.{index_or_next, with_site}
 use Rattle.conn_key.specs.Target.{GivesTarget}
 use Rattle.conn_key.specs.declared.site.Site.{Site}
-use Rattle.conn_key.specs.declared.target.Target.{Target}
 use Rattle.commands.specs.Urls.{IsBadUrl, IsPrintable}
-use Rattle.commands.specs.LoadJob.{method_said}
 use Rattle.commands.specs.LoadJob.{url_job}
 use Rattle.command_line.specs.Options.{texts_said}
 use Rattle.commands.specs.declared.load_settings.LoadFlags.{LoadFlags}

@@ -1,5 +1,5 @@
 -- Numbers on the command line: decimal digits, durations, percentages.
-use Rattle.std.specs.Prelude.{◌≤◌, ◌+◌, ◌*◌, ◌-◌, ◌^◌, ◌==◌, ◌&&◌, ◌≡◌, ℕ, Bool, nat_le, nat_lt, codes, length, take, Option, None, Some, if◌then◌else◌}
+use Rattle.std.specs.Prelude.{◌+◌, ◌*◌, ◌-◌, ◌^◌, ◌==◌, ◌&&◌, ◌≡◌, ℕ, Bool, nat_le, nat_lt, codes, length, take, Option, None, Some, if◌then◌else◌}
 use Rattle.std.specs.List.{before_first, after_first, last_or, position_or_len}
 use Rattle.std.specs.Option.{option_and_then, option_map}
 use Rattle.clap.specs.Words.{Text}

@@ -7,9 +7,7 @@ use Rattle.exchange.specs.declared.state.State.TheVariants.{Asking, Finished}
 use Rattle.exchange.specs.Transfers.{TransferShown}
 use Rattle.exchange.specs.Dialling.{DialShown}
 use Rattle.exchange.specs.Worlds.{World}
-use Rattle.exchange.specs.Answers.{IsSameJob}
-use Rattle.exchange.specs.Stepping.{PollsFew}
-use Rattle.exchange.specs.Exchanging.{IsFinished, IsGoing, IsPolled}
+use Rattle.exchange.specs.Exchanging.{IsGoing, IsPolled}
 
 -- a new transfer of what was prepared stands at that place, where none stood, or behind all others
 pub record Joins {W : Type 0} (slots more : List (Option (TransferShown W))) (parts : Prepared) (place : ℕ) : Type 0 where

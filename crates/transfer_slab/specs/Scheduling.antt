@@ -2,7 +2,6 @@
 use Rattle.std.specs.Prelude.{◌≡◌, ◌==◌, ℕ, zero, suc, ◌+◌, ◌⊎◌, Bool, true, false, List, slice_get, Option, Some, None, IfSome, IsSomeAnd}
 use Rattle.futures.specs.LinkedLists.{LinkedLists, list_of, IsEmpty, Moves}
 use Rattle.exchange.specs.declared.state.State.{State}
-use Rattle.exchange.specs.declared.state.State.TheVariants.{Waiting}
 use Rattle.exchange.specs.Transfers.{TransferShown}
 use Rattle.exchange.specs.Waiting.{is_waiting, HasTicket, IsAtWire}
 use Rattle.exchange.specs.Stepping.{has_lease}
