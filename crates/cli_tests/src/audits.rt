@@ -1,7 +1,7 @@
 //! Audits of traces that come piece by piece, and answers that cannot be written.
 
 use crate::running::{ROW, Row, Text, check_stopped};
-use audit_stream::{AuditStop, AuditOutput, Verdict, audit_stream};
+use audit_stream::{AuditOutput, AuditStop, Verdict, audit_stream};
 use std::alloc::{AllocError, Global};
 use std::fmt::Write;
 use std::io::Read;

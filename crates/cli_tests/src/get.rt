@@ -3,7 +3,7 @@
 use crate::checks::check_eq;
 use crate::networks::FakeNetwork;
 use crate::running::{ROW, Row, Text, check, check_stopped, check_words};
-use crate::streams::Failing;
+use crate::script_streams::Failing;
 use command_line::Words;
 use commands::{CrawlFlags, CrawlOptions, UrlFile};
 use crawl::{Crawl, CrawlFault, Crawled, NetworkFault, Tally};

@@ -30,6 +30,6 @@ mod networks;
 #[cfg(test)]
 mod running;
 #[cfg(test)]
-mod streams;
+mod script_streams;
 #[cfg(test)]
 mod words;

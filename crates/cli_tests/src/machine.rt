@@ -1,6 +1,6 @@
 //! A machine that has no memory for one of its commands.
 
-use crate::streams::{REUSE, REUSED};
+use crate::script_streams::{REUSE, REUSED};
 use script_engine::{Engine, Machine, SCRIPT_LIMIT, run_lines};
 use script_text::{Command, FaultKind, ScriptFault};
 use std::alloc::Global;

@@ -6,7 +6,7 @@ ghost use Rattle.streams.specs.Streams.{CanCount};
 use crate::audits::BROKEN;
 use crate::loads::FakeLoader;
 use crate::networks::FakeNetwork;
-use crate::streams::Expecting;
+use crate::script_streams::Expecting;
 use cli::{System, run_program};
 use command_line::{CountedArgsAlloc, Words};
 use crawl::NetworkFault;

@@ -1,7 +1,7 @@
 //! Pictures and help that cannot be written, and words for which there is no memory.
 
 use crate::running::{ROW, Row, Text, check_all, check_stopped, check_words};
-use crate::streams::REUSE;
+use crate::script_streams::REUSE;
 use command_line::Words;
 
 /// Words of pictures that cannot be made or written.

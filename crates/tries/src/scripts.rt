@@ -4,7 +4,7 @@
 ghost use Rattle.std.specs.Prelude.{◌≡◌};
 
 mod accounts;
-mod commands;
+mod calls;
 mod errors;
 mod heads;
 mod site_leases;
@@ -12,7 +12,7 @@ mod telling;
 
 use crate::input::read_input;
 use crate::scripts::accounts::check_account;
-use crate::scripts::commands::answer;
+use crate::scripts::calls::answer;
 use crate::scripts::errors::{ScriptError, print_error};
 use crate::scripts::heads::{Head, MOST_LINES, read_head};
 use crate::scripts::site_leases::{NoStream, SiteLeases};
