@@ -132,7 +132,7 @@ pub fn run<'a, W: Sink>(
     loader: &mut FakeLoader<'_>,
     output: W,
 ) -> (u8, TestSystem<'a, W>)
-    requires { CanCount (W.sink output.entry) }
+    requires { CanCount (W.sink output) }
 {
     let mut memory = CountedArgsAlloc::new(alloc);
     let mut system = System {

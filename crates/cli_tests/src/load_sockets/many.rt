@@ -136,7 +136,9 @@ fn sum_of(requests: &[u64]) -> u64 {
 // Returns the number of jobs at a site. Job K is at site K modulo the number of sites.
 fn share_of(jobs: u64, sites: u32, site: u64) -> u64 {
     let sites = sites as u64;
-    jobs.saturating_add(sites).saturating_sub(site + 1) / sites.max(1)
+    jobs.saturating_add(sites)
+        .saturating_sub(site.saturating_add(1))
+        / sites.max(1)
 }
 
 // Runs a load of a server in this process. Returns its result and the number of requests at each
