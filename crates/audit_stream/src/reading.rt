@@ -2,7 +2,8 @@
 
 ghost use Rattle.std.specs.Prelude.{◌≡◌, ◌<◌, length, true, option_map, IfOk, OnOk};
 ghost use Rattle.streams.specs.Streams.{CanCount};
-ghost use Rattle.audit_stream.specs.Audits.{AuditsFile, AuditsStream, IsSetTo, ReadsAll, ReadsPiece};
+ghost use Rattle.audit_stream.specs.Audits.{AuditsFile, AuditsStream, IsSetTo, ReadsAll};
+ghost use Rattle.audit_stream.specs.Audits.{ReadsPiece};
 ghost use Rattle.audit_stream.specs.Reading.{EndsText, Leaves, goes_on};
 ghost use Rattle.audit_stream.specs.Runs.{told_by};
 ghost use Rattle.audit_stream.specs.Tells.{TellsLine};

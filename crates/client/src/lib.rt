@@ -1,5 +1,6 @@
-//! A client sends one request after another over a pool, and keeps its connections. What crawls read
-//! is here too: names that are looked up, on threads of their own, and the lines of a file of URLs.
+//! A client sends one request after another over a pool, and keeps its connections. Beside it is
+//! what crawls read: names of hosts, which are looked up on threads of their own, and the lines of a
+//! file of URLs.
 #![tactic(auto)]
 
 mod client;

@@ -150,8 +150,8 @@ const LOAD_ABOUT: &str = "Load-tests a server, or the cache against a built-in s
 
 const AUDIT_ABOUT: &str = "Checks a connection-pool trace against the rules";
 
-// Returns the program's command line with one more command, which has these texts of help before and
-// after its options.
+// Returns the program's command line with one more command, which has these texts of help before
+// and after its options.
 fn with_command<'a>(
     program: Command<'a>,
     command: Command<'a>,

@@ -1,6 +1,6 @@
-//! What the commands of the program are given and end with: plans of crawls and loads, URLs and their
-//! targets, addresses that are given for hosts, statuses, texts of file faults, and how the program
-//! was built.
+//! What the program's commands are given, and how they end: plans of crawls and loads, URLs and
+//! their targets, addresses given for hosts, statuses, messages for files, and how the program was
+//! built.
 #![tactic(auto)]
 
 mod build;

@@ -25,8 +25,8 @@ pub struct Want {
 }
 
 impl Want {
-    /// What a transfer wants if it says nothing else: lane 0, a connection that was idle for at most
-    /// [`DEFAULT_MAX_AGE`] seconds, however old, and that may be used again.
+    /// The want of a transfer with the defaults of libcurl: lane 0, a connection that was idle for
+    /// at most [`DEFAULT_MAX_AGE`] seconds, no limit to its age, and reuse allowed.
     pub fn of(transfer: u64) -> Want
         ensures { result ≡ want_of transfer }
     {

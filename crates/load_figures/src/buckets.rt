@@ -1,7 +1,8 @@
 //! The buckets of an HDR histogram with two significant digits (HdrHistogram, 256 sub-buckets).
 
 ghost use Rattle.std.specs.Prelude.{◌≡◌, ◌<◌};
-ghost use Rattle.load_figures.specs.Buckets.{bits_untold_in, bucket_of, highest_of, lowest_of, IsIn};
+ghost use Rattle.load_figures.specs.Buckets.{bits_untold_in, bucket_of, highest_of, lowest_of};
+ghost use Rattle.load_figures.specs.Buckets.{IsIn};
 
 /// How many buckets there are.
 pub const BUCKETS: usize = 7424;

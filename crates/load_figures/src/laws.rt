@@ -1,6 +1,7 @@
 //! What buckets and tallies tell of the values that were recorded.
 
-ghost use Rattle.load_figures.specs.Laws.{ValuesAreInTheirBuckets, BucketsAreApart, BucketsAreNarrow};
+ghost use Rattle.load_figures.specs.Laws.{ValuesAreInTheirBuckets, BucketsAreApart};
+ghost use Rattle.load_figures.specs.Laws.{BucketsAreNarrow};
 ghost use Rattle.load_figures.specs.Laws.{CountsAreOfValues, NumberIsOfValues, TotalIsOfValues};
 ghost use Rattle.load_figures.specs.Laws.{TalliesAddUp, ValueAtIsPercentile};
 

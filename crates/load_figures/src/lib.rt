@@ -1,5 +1,5 @@
-//! What a load measures: the figures that its workers count, intervals, and latencies in a histogram
-//! with two significant digits.
+//! What a load measures: the figures that its workers count, in all and in intervals, and
+//! histograms of latencies with two significant digits.
 #![tactic(auto)]
 
 mod buckets;

@@ -1,4 +1,5 @@
-//! What is told of a load: its report, as a summary, as JSON and as a drawing.
+//! The report of a load, as a summary, as JSON and as a drawing, and the account of its cache as
+//! text.
 #![tactic(auto)]
 
 mod account;

@@ -27,8 +27,8 @@ impl Model for JobCounter {
         IsClaimTable claim.table.shared.table_id.words claim.table.shared.key claim.jobs };
 }
 
-/// A seat at a job counter, with which one thread at a time draws. It has a share of the whole, which is
-/// lost if the seat is dropped. Contracts see what it drew.
+/// A seat at a job counter, with which one thread at a time draws. It has a share of the whole,
+/// which is lost if the seat is dropped. Contracts see what it drew.
 #[derive(Drop)]
 pub struct JobSeat {
     seat: Seat<(), Drawing>,

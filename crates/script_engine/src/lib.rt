@@ -1,6 +1,5 @@
-//! What a script means, as definitions over its lines, with laws of transcripts; and the engine that
-//! runs a script's commands over a pool, from the stream that the script is read from to the stream
-//! that the transcript is written to.
+//! The meaning of scripts, as definitions over their lines, with laws of transcripts; and the engine
+//! that runs a script over a pool, from the stream of the script to that of the transcript.
 #![tactic(auto)]
 
 mod facts;

@@ -1,7 +1,8 @@
 //! The run of a load, its outcome, and its files.
 
 ghost use Rattle.std.specs.Prelude.{◌≡◌, ◌⊎◌, IfOk};
-ghost use Rattle.load_run.specs.LoadRuns.{IsLoadOutcomeOf, lacks_jobs, IsUnknownHost, IsUnknownSite};
+ghost use Rattle.load_run.specs.LoadRuns.{IsLoadOutcomeOf, lacks_jobs, IsUnknownHost};
+ghost use Rattle.load_run.specs.LoadRuns.{IsUnknownSite};
 ghost use Rattle.load_run.specs.LoadRuns.{ReportsRun, RunsMany, jobs_planned, polled_world};
 ghost use Rattle.load_run.specs.LoadRuns.{per_second, positive};
 ghost use Rattle.load_run.specs.LoadSites.{AreSitesOf, AreAllBelow};
