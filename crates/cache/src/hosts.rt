@@ -85,6 +85,16 @@ impl<S: Drop> Hosts<S> {
         self.bundles.len()
     }
 
+    /// States, for proofs, that all hosts are lawful, each in its place. Does nothing at run time.
+    pub fn is_lawful(&self)
+        ensures lawful { IsLawful self.now.limits (all_hosts self.now) }
+        ensures places { AreInPlace self.now }
+    {
+        // The budget is within its limits, and a host that is listed is one that there is.
+        let _kept = self.budget.kept();
+        let _first = self.lobby.first();
+    }
+
     /// A host's log.
     pub fn log(&self, site: u32) -> Option<&Log>
         ensures lawful { IsLawful self.now.limits (all_hosts self.now) }
@@ -97,9 +107,7 @@ impl<S: Drop> Hosts<S> {
         ensures unclaimed { IfSome result (λ log. UnclaimedAreStarts (host_at self.now site)) }
         ensures not_there { IfNone result (length self.now.hosts ≤ site) }
     {
-        // The budget is within its limits, and a host that is listed is one that there is.
-        let _kept = self.budget.kept();
-        let _first = self.lobby.first();
+        self.is_lawful();
         match self.bundles.get(site as usize) {
             Some(bundle) => Some(bundle.log()),
             None => None,

@@ -87,6 +87,14 @@ impl<S: Drop> Pool<S> {
         self.hosts.len() as u32
     }
 
+    /// States, for proofs, that all hosts are at rest, each in its place. Does nothing at run time.
+    pub fn is_at_rest(&self)
+        ensures at_rest { IsAtRest self.now.limits (all_hosts self.now) }
+        ensures places { AreInPlace self.now }
+    {
+        self.hosts.is_lawful();
+    }
+
     /// A host's log; `None` if there is no such site.
     ///
     /// Each log is legal, and quiet with its mark; the queue has exactly the hosts that are queued,

@@ -29,8 +29,8 @@ pub(crate) fn acquire_from(
     ensures refused { IfErr result (IsRefusalOf pool.old site want) }
     ensures err { OnErr result (pool.new ≡ pool.old) }
 {
-    // For the proof: all hosts are at rest, each in its place.
-    let _log = pool.log(site);
+    // For the proof.
+    pool.is_at_rest();
     pool.acquire(site, want, now)
 }
 

@@ -283,8 +283,8 @@ fn spend_all(pool: &mut Pool<()>, kept: &mut Vec<SiteLeases>)
     ensures nothing { NothingIsKept kept.new.items }
     ensures stays { StaysPool pool.old pool.new }
 {
-    // Proof: all hosts are at rest, each in its place.
-    let _log = pool.log(0);
+    // For the proof.
+    pool.is_at_rest();
     for site in 0..pool.hosts() {
         kept[site as usize].spend_all(pool, site);
     }

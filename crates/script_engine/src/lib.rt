@@ -1,5 +1,5 @@
-//! The meaning of scripts, as definitions over their lines, with laws of transcripts; and the engine
-//! that runs a script over a pool, from the stream of the script to that of the transcript.
+//! The meaning of scripts, as definitions over their lines, with laws of transcripts; and the
+//! engine, which reads a script from a stream, runs it over a pool and writes its transcript.
 #![tactic(auto)]
 
 mod facts;

@@ -85,8 +85,8 @@ impl SiteLeases {
         ensures others { KeepsOtherHosts site pool.old pool.new }
         ensures stays { StaysPool pool.old pool.new }
     {
-        // For the proof: all hosts are at rest, each in its place.
-        let _log = pool.log(site);
+        // For the proof.
+        pool.is_at_rest();
         match pool.acquire(site, want, moment)? {
             Acquired::Lease(lease) => keep_lease(pool, &mut self.leases, lease),
             Acquired::Wait(ticket) => keep_ticket(pool, &mut self.tickets, ticket),
@@ -111,8 +111,8 @@ impl SiteLeases {
         ensures others { KeepsOtherHosts site pool.old pool.new }
         ensures stays { StaysPool pool.old pool.new }
     {
-        // For the proof: all hosts are at rest, each in its place.
-        let _log = pool.log(site);
+        // For the proof.
+        pool.is_at_rest();
         let Some(ticket) = self.tickets.remove(&transfer) else {
             return reply(alloc, "stranger");
         };
@@ -157,8 +157,8 @@ impl SiteLeases {
         ensures others { KeepsOtherHosts site pool.old pool.new }
         ensures stays { StaysPool pool.old pool.new }
     {
-        // For the proof: all hosts are at rest, each in its place.
-        let _log = pool.log(site);
+        // For the proof.
+        pool.is_at_rest();
         match self.leases.remove(&transfer) {
             Some(lease) => {
                 pool.give_back(lease, facts_of_ending(ending), moment);
@@ -182,8 +182,8 @@ impl SiteLeases {
         ensures others { KeepsOtherHosts site pool.old pool.new }
         ensures stays { StaysPool pool.old pool.new }
     {
-        // For the proof: all hosts are at rest, each in its place.
-        let _log = pool.log(site);
+        // For the proof.
+        pool.is_at_rest();
         match self.leases.remove(&transfer) {
             Some(lease) => {
                 pool.abandon(lease, moment);
@@ -207,8 +207,8 @@ impl SiteLeases {
         ensures others { KeepsOtherHosts site pool.old pool.new }
         ensures stays { StaysPool pool.old pool.new }
     {
-        // For the proof: all hosts are at rest, each in its place.
-        let _log = pool.log(site);
+        // For the proof.
+        pool.is_at_rest();
         match self.tickets.remove(&transfer) {
             Some(ticket) => {
                 withdraw_ticket(pool, ticket, moment);
@@ -233,8 +233,8 @@ impl SiteLeases {
         ensures others { KeepsOtherHosts site pool.old pool.new }
         ensures stays { StaysPool pool.old pool.new }
     {
-        // For the proof: all hosts are at rest, each in its place.
-        let _log = pool.log(site);
+        // For the proof.
+        pool.is_at_rest();
         while let Some(_) = self.spend_first(pool, site) {}
     }
 
@@ -257,8 +257,8 @@ impl SiteLeases {
         ensures others { KeepsOtherHosts site pool.old pool.new }
         ensures stays { StaysPool pool.old pool.new }
     {
-        // For the proof: all hosts are at rest, each in its place.
-        let _log = pool.log(site);
+        // For the proof.
+        pool.is_at_rest();
         if self.is_ticket_first() {
             let (transfer, first) = self.tickets.pop_first()?;
             withdraw_ticket(pool, first, 0);

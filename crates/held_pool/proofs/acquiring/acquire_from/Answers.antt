@@ -4,7 +4,7 @@ use Rattle.held_pool.proofs.acquiring.acquire_from.Goals as goal
 
 pub returns-clause-nothing : goal.returns-clause-nothing
 returns-clause-nothing c =
-    let rest = c.log-log.ensures in
+    let rest = c.is_at_rest.ensures in
     had_nothing c.args.pool.now rest.at_rest rest.places c.args.site c.args.want c.acquire.result c.acquire.ensures.due
 
 pub returns-clause-refused : goal.returns-clause-refused

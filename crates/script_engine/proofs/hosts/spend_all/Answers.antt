@@ -20,7 +20,7 @@ pub returns-clause-ending : goal.returns-clause-ending
 returns-clause-ending c =
     let done : length c.args.kept.now.items ≤ c.loop-site.site = omega (arith, c.loop-site-test.false, c.hosts-site-end.ensures, c.requires.keeps.count) in
     all-turned c.args.pool.now c.loop-site.pool c.args.kept.now.items c.loop-site.kept.items c.requires.keeps c.loop-site.site done c.loop-site.invariant
-    c.log-log.ensures.at_rest c.log-log.ensures.places
+    c.is_at_rest.ensures.at_rest c.is_at_rest.ensures.places
 
 pub returns-clause-nothing : goal.returns-clause-nothing
 returns-clause-nothing c =

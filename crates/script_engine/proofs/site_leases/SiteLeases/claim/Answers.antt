@@ -37,7 +37,7 @@ pub claim-requires : goal.claim-requires
 claim-requires c =
     let pool = c.args.pool.now in
     let site = c.args.site in
-    let rest = c.log-log.ensures in
+    let rest = c.is_at_rest.ensures in
     let due = ticket-kept pool site c.requires.there rest.at_rest rest.places c.args.self.now c.requires.keeps c.args.transfer c.in-Some.ticket (sym c.in-Some.is ∙ c.remove.ensures.value) in
     record { here = ticket-made pool site c.args.transfer c.in-Some.ticket c.requires.there (rest.places site c.requires.there).place due }
 
@@ -45,7 +45,7 @@ pub keep_lease-requires-clause-others : goal.keep_lease-requires-clause-others
 keep_lease-requires-clause-others c =
     let pool = c.args.pool.now in
     let site = c.args.site in
-    let rest = c.log-log.ensures in
+    let rest = c.is_at_rest.ensures in
     let due = ticket-kept pool site c.requires.there rest.at_rest rest.places c.args.self.now c.requires.keeps c.args.transfer c.in-Some.ticket (sym c.in-Some.is ∙ c.remove.ensures.value) in
     let new = c.claim.new.self in
     let lease = c.in-Ok-Lease.lease in
@@ -57,7 +57,7 @@ pub keep_ticket-requires-clause-here : goal.keep_ticket-requires-clause-here
 keep_ticket-requires-clause-here c =
     let pool = c.args.pool.now in
     let site = c.args.site in
-    let rest = c.log-log.ensures in
+    let rest = c.is_at_rest.ensures in
     let due = ticket-kept pool site c.requires.there rest.at_rest rest.places c.args.self.now c.requires.keeps c.args.transfer c.in-Some.ticket (sym c.in-Some.is ∙ c.remove.ensures.value) in
     let still = still_as pool c.claim.new.self c.in-Some.ticket c.in-Ok-Still.ticket (rw c.in-Ok-Still.field-0-is at c.in-Ok-Still.ensures.claimed) (rw c.in-Ok-Still.field-0-is at c.in-Ok-Still.ensures.done) in
     still-here pool c.claim.new.self c.in-Some.ticket c.in-Ok-Still.ticket (ticket-made pool site c.args.transfer c.in-Some.ticket c.requires.there (rest.places site c.requires.there).place due) still.1 still.2
@@ -66,7 +66,7 @@ pub keep_ticket-requires-clause-unleased : goal.keep_ticket-requires-clause-unle
 keep_ticket-requires-clause-unleased c =
     let pool = c.args.pool.now in
     let site = c.args.site in
-    let rest = c.log-log.ensures in
+    let rest = c.is_at_rest.ensures in
     let due = ticket-kept pool site c.requires.there rest.at_rest rest.places c.args.self.now c.requires.keeps c.args.transfer c.in-Some.ticket (sym c.in-Some.is ∙ c.remove.ensures.value) in
     let new = c.claim.new.self in
     let again = c.in-Ok-Still.ticket in
@@ -77,7 +77,7 @@ pub keep_ticket-requires-clause-others : goal.keep_ticket-requires-clause-others
 keep_ticket-requires-clause-others c =
     let pool = c.args.pool.now in
     let site = c.args.site in
-    let rest = c.log-log.ensures in
+    let rest = c.is_at_rest.ensures in
     let due = ticket-kept pool site c.requires.there rest.at_rest rest.places c.args.self.now c.requires.keeps c.args.transfer c.in-Some.ticket (sym c.in-Some.is ∙ c.remove.ensures.value) in
     let new = c.claim.new.self in
     let again = c.in-Ok-Still.ticket in
@@ -90,7 +90,7 @@ pub returns-in-Ok-clause-answer : goal.returns-in-Ok-clause-answer
 returns-in-Ok-clause-answer c =
     let pool = c.args.pool.now in
     let site = c.args.site in
-    let rest = c.log-log.ensures in
+    let rest = c.is_at_rest.ensures in
     let due = ticket-kept pool site c.requires.there rest.at_rest rest.places c.args.self.now c.requires.keeps c.args.transfer c.in-Some.ticket (sym c.in-Some.is ∙ c.remove.ensures.value) in
     let new = c.claim.new.self in
     let lease = c.in-Ok-Lease.lease in
@@ -118,7 +118,7 @@ pub returns-in-Ok-clause-site : goal.returns-in-Ok-clause-site
 returns-in-Ok-clause-site c =
     let pool = c.args.pool.now in
     let site = c.args.site in
-    let rest = c.log-log.ensures in
+    let rest = c.is_at_rest.ensures in
     let due = ticket-kept pool site c.requires.there rest.at_rest rest.places c.args.self.now c.requires.keeps c.args.transfer c.in-Some.ticket (sym c.in-Some.is ∙ c.remove.ensures.value) in
     let new = c.claim.new.self in
     let lease = c.in-Ok-Lease.lease in
@@ -130,7 +130,7 @@ pub returns-in-Ok-clause-keeps : goal.returns-in-Ok-clause-keeps
 returns-in-Ok-clause-keeps c =
     let pool = c.args.pool.now in
     let site = c.args.site in
-    let rest = c.log-log.ensures in
+    let rest = c.is_at_rest.ensures in
     let due = ticket-kept pool site c.requires.there rest.at_rest rest.places c.args.self.now c.requires.keeps c.args.transfer c.in-Some.ticket (sym c.in-Some.is ∙ c.remove.ensures.value) in
     let new = c.claim.new.self in
     let lease = c.in-Ok-Lease.lease in
@@ -144,7 +144,7 @@ pub returns-in-Ok-clause-others : goal.returns-in-Ok-clause-others
 returns-in-Ok-clause-others c =
     let pool = c.args.pool.now in
     let site = c.args.site in
-    let rest = c.log-log.ensures in
+    let rest = c.is_at_rest.ensures in
     let due = ticket-kept pool site c.requires.there rest.at_rest rest.places c.args.self.now c.requires.keeps c.args.transfer c.in-Some.ticket (sym c.in-Some.is ∙ c.remove.ensures.value) in
     let new = c.claim.new.self in
     let lease = c.in-Ok-Lease.lease in
@@ -156,7 +156,7 @@ pub returns-in-Err-keep_lease-clause-answer : goal.returns-in-Err-keep_lease-cla
 returns-in-Err-keep_lease-clause-answer c =
     let pool = c.args.pool.now in
     let site = c.args.site in
-    let rest = c.log-log.ensures in
+    let rest = c.is_at_rest.ensures in
     let due = ticket-kept pool site c.requires.there rest.at_rest rest.places c.args.self.now c.requires.keeps c.args.transfer c.in-Some.ticket (sym c.in-Some.is ∙ c.remove.ensures.value) in
     let new = c.claim.new.self in
     let lease = c.in-Ok-Lease.lease in
@@ -183,7 +183,7 @@ pub returns-in-Err-keep_lease-clause-site : goal.returns-in-Err-keep_lease-claus
 returns-in-Err-keep_lease-clause-site c =
     let pool = c.args.pool.now in
     let site = c.args.site in
-    let rest = c.log-log.ensures in
+    let rest = c.is_at_rest.ensures in
     let due = ticket-kept pool site c.requires.there rest.at_rest rest.places c.args.self.now c.requires.keeps c.args.transfer c.in-Some.ticket (sym c.in-Some.is ∙ c.remove.ensures.value) in
     let new = c.claim.new.self in
     let lease = c.in-Ok-Lease.lease in
@@ -195,7 +195,7 @@ pub returns-in-Err-keep_lease-clause-keeps : goal.returns-in-Err-keep_lease-clau
 returns-in-Err-keep_lease-clause-keeps c =
     let pool = c.args.pool.now in
     let site = c.args.site in
-    let rest = c.log-log.ensures in
+    let rest = c.is_at_rest.ensures in
     let due = ticket-kept pool site c.requires.there rest.at_rest rest.places c.args.self.now c.requires.keeps c.args.transfer c.in-Some.ticket (sym c.in-Some.is ∙ c.remove.ensures.value) in
     let new = c.claim.new.self in
     let lease = c.in-Ok-Lease.lease in
@@ -209,7 +209,7 @@ pub returns-in-Err-keep_lease-clause-others : goal.returns-in-Err-keep_lease-cla
 returns-in-Err-keep_lease-clause-others c =
     let pool = c.args.pool.now in
     let site = c.args.site in
-    let rest = c.log-log.ensures in
+    let rest = c.is_at_rest.ensures in
     let due = ticket-kept pool site c.requires.there rest.at_rest rest.places c.args.self.now c.requires.keeps c.args.transfer c.in-Some.ticket (sym c.in-Some.is ∙ c.remove.ensures.value) in
     let new = c.claim.new.self in
     let lease = c.in-Ok-Lease.lease in
@@ -221,7 +221,7 @@ pub returns-in-Ok-keep_ticket-clause-answer : goal.returns-in-Ok-keep_ticket-cla
 returns-in-Ok-keep_ticket-clause-answer c =
     let pool = c.args.pool.now in
     let site = c.args.site in
-    let rest = c.log-log.ensures in
+    let rest = c.is_at_rest.ensures in
     let due = ticket-kept pool site c.requires.there rest.at_rest rest.places c.args.self.now c.requires.keeps c.args.transfer c.in-Some.ticket (sym c.in-Some.is ∙ c.remove.ensures.value) in
     let new = c.claim.new.self in
     let again = c.in-Ok-Still.ticket in
@@ -246,7 +246,7 @@ pub returns-in-Ok-keep_ticket-clause-keeps : goal.returns-in-Ok-keep_ticket-clau
 returns-in-Ok-keep_ticket-clause-keeps c =
     let pool = c.args.pool.now in
     let site = c.args.site in
-    let rest = c.log-log.ensures in
+    let rest = c.is_at_rest.ensures in
     let due = ticket-kept pool site c.requires.there rest.at_rest rest.places c.args.self.now c.requires.keeps c.args.transfer c.in-Some.ticket (sym c.in-Some.is ∙ c.remove.ensures.value) in
     let new = c.claim.new.self in
     let again = c.in-Ok-Still.ticket in
@@ -258,7 +258,7 @@ pub returns-in-Err-keep_ticket-clause-keeps : goal.returns-in-Err-keep_ticket-cl
 returns-in-Err-keep_ticket-clause-keeps c =
     let pool = c.args.pool.now in
     let site = c.args.site in
-    let rest = c.log-log.ensures in
+    let rest = c.is_at_rest.ensures in
     let due = ticket-kept pool site c.requires.there rest.at_rest rest.places c.args.self.now c.requires.keeps c.args.transfer c.in-Some.ticket (sym c.in-Some.is ∙ c.remove.ensures.value) in
     let new = c.claim.new.self in
     let again = c.in-Ok-Still.ticket in
@@ -270,7 +270,7 @@ pub returns-in-Err-keep_ticket-clause-answer : goal.returns-in-Err-keep_ticket-c
 returns-in-Err-keep_ticket-clause-answer c =
     let pool = c.args.pool.now in
     let site = c.args.site in
-    let rest = c.log-log.ensures in
+    let rest = c.is_at_rest.ensures in
     let due = ticket-kept pool site c.requires.there rest.at_rest rest.places c.args.self.now c.requires.keeps c.args.transfer c.in-Some.ticket (sym c.in-Some.is ∙ c.remove.ensures.value) in
     let new = c.claim.new.self in
     let again = c.in-Ok-Still.ticket in
@@ -294,7 +294,7 @@ pub returns-in-Err-keep_ticket-clause-others : goal.returns-in-Err-keep_ticket-c
 returns-in-Err-keep_ticket-clause-others c =
     let pool = c.args.pool.now in
     let site = c.args.site in
-    let rest = c.log-log.ensures in
+    let rest = c.is_at_rest.ensures in
     let due = ticket-kept pool site c.requires.there rest.at_rest rest.places c.args.self.now c.requires.keeps c.args.transfer c.in-Some.ticket (sym c.in-Some.is ∙ c.remove.ensures.value) in
     let new = c.claim.new.self in
     let again = c.in-Ok-Still.ticket in
@@ -305,7 +305,7 @@ pub returns-in-Err-clause-answer : goal.returns-in-Err-clause-answer
 returns-in-Err-clause-answer c =
     let pool = c.args.pool.now in
     let site = c.args.site in
-    let rest = c.log-log.ensures in
+    let rest = c.is_at_rest.ensures in
     let due = ticket-kept pool site c.requires.there rest.at_rest rest.places c.args.self.now c.requires.keeps c.args.transfer c.in-Some.ticket (sym c.in-Some.is ∙ c.remove.ensures.value) in
     absurd (no-stray pool site c.args.transfer c.in-Some.ticket (rest.places site c.requires.there).place due c.in-Err.ensures.strange.1)
 
@@ -313,6 +313,6 @@ pub returns-in-Err-clause-keeps : goal.returns-in-Err-clause-keeps
 returns-in-Err-clause-keeps c =
     let pool = c.args.pool.now in
     let site = c.args.site in
-    let rest = c.log-log.ensures in
+    let rest = c.is_at_rest.ensures in
     let due = ticket-kept pool site c.requires.there rest.at_rest rest.places c.args.self.now c.requires.keeps c.args.transfer c.in-Some.ticket (sym c.in-Some.is ∙ c.remove.ensures.value) in
     absurd (no-stray pool site c.args.transfer c.in-Some.ticket (rest.places site c.requires.there).place due c.in-Err.ensures.strange.1)

@@ -36,7 +36,7 @@ returns-clause-those c =
     let site = c.args.site in
     let kept = c.args.self.now in
     let those = merged (keys kept.leases) (keys kept.tickets) in
-    let sound = sound-at pool site c.requires.there c.log-log.ensures.at_rest c.log-log.ensures.places in
+    let sound = sound-at pool site c.requires.there c.is_at_rest.ensures.at_rest c.is_at_rest.ensures.places in
     record {
       ascending = IsStrictlyIncreasing-from_sorted those (sorted-merged (keys kept.leases) (keys kept.tickets) c.requires.keeps.holders);
       each = λ t. each-left (host_at pool site) sound site (all_hosts pool) (log_is pool site) t kept.leases.entries kept.tickets.entries c.requires.keeps.keeps.leases c.requires.keeps.keeps.tickets;

@@ -23,9 +23,9 @@ withdraw_ticket-requires-clause-own c =
     let host = host_at pool c.args.site in
     let t = c.in_ok-transfer.transfer in
     let ticket = c.in_ok-transfer.first in
-    let sound = sound-at pool c.args.site c.requires.there c.log-log.ensures.at_rest c.log-log.ensures.places in
+    let sound = sound-at pool c.args.site c.requires.there c.is_at_rest.ensures.at_rest c.is_at_rest.ensures.places in
     let kept = kept-ticket host sound c.args.self.now.tickets.entries t ticket c.requires.keeps.keeps.tickets (sym c.in_ok-transfer.ensures.value) in
-    let same : ticket.site ≡ c.args.site = kept.site ∙ (c.log-log.ensures.places c.args.site c.requires.there).place in
+    let same : ticket.site ≡ c.args.site = kept.site ∙ (c.is_at_rest.ensures.places c.args.site c.requires.there).place in
     ap (λ s. is_valid_ticket (host_at pool s) ticket.wait.want) same ∙ kept-valid host t ticket.wait.want kept.wants kept.own
 
 pub withdraw_ticket-requires-clause-here : goal.withdraw_ticket-requires-clause-here
@@ -33,9 +33,9 @@ withdraw_ticket-requires-clause-here c =
     let pool = c.args.pool.now in
     let t = c.in_ok-transfer.transfer in
     let ticket = c.in_ok-transfer.first in
-    let sound = sound-at pool c.args.site c.requires.there c.log-log.ensures.at_rest c.log-log.ensures.places in
+    let sound = sound-at pool c.args.site c.requires.there c.is_at_rest.ensures.at_rest c.is_at_rest.ensures.places in
     let kept = kept-ticket (host_at pool c.args.site) sound c.args.self.now.tickets.entries t ticket c.requires.keeps.keeps.tickets (sym c.in_ok-transfer.ensures.value) in
-    ticket-made pool c.args.site t ticket c.requires.there (c.log-log.ensures.places c.args.site c.requires.there).place kept
+    ticket-made pool c.args.site t ticket c.requires.there (c.is_at_rest.ensures.places c.args.site c.requires.there).place kept
 
 pub returns-in_ok-transfer-clause-first : goal.returns-in_ok-transfer-clause-first
 returns-in_ok-transfer-clause-first c =
@@ -51,9 +51,9 @@ returns-in_ok-transfer-clause-all c =
     let ticket = c.in_ok-transfer.first in
     let rest = keys c.pop_first.new.self in
     let first : keys c.args.self.now.tickets ≡ t ∷ rest = ap keys_of c.in_ok-transfer.ensures.removal in
-    let sound = sound-at pool site c.requires.there c.log-log.ensures.at_rest c.log-log.ensures.places in
+    let sound = sound-at pool site c.requires.there c.is_at_rest.ensures.at_rest c.is_at_rest.ensures.places in
     let kept = kept-ticket host sound c.args.self.now.tickets.entries t ticket c.requires.keeps.keeps.tickets (sym c.in_ok-transfer.ensures.value) in
-    let same : ticket.site ≡ site = kept.site ∙ (c.log-log.ensures.places site c.requires.there).place in
+    let same : ticket.site ≡ site = kept.site ∙ (c.is_at_rest.ensures.places site c.requires.there).place in
     gave-up-ticket pool.limits site (kept_at pool c.args.self.now) t (all_hosts c.withdraw_ticket.new.pool) rest
     (ap (is_among t) first ∙ ap (λ b. b || is_among t rest) (itself t))
     (ap (λ b. cond b rest (t ∷ without_ticket t rest)) (sym (itself t)) ∙ ap (without_ticket t) (sym first))
@@ -67,9 +67,9 @@ returns-in_ok-transfer-clause-keeps c =
     let new = host_at c.withdraw_ticket.new.pool site in
     let t = c.in_ok-transfer.transfer in
     let ticket = c.in_ok-transfer.first in
-    let sound = sound-at pool site c.requires.there c.log-log.ensures.at_rest c.log-log.ensures.places in
+    let sound = sound-at pool site c.requires.there c.is_at_rest.ensures.at_rest c.is_at_rest.ensures.places in
     let kept = kept-ticket host sound c.args.self.now.tickets.entries t ticket c.requires.keeps.keeps.tickets (sym c.in_ok-transfer.ensures.value) in
-    let same : ticket.site ≡ site = kept.site ∙ (c.log-log.ensures.places site c.requires.there).place in
+    let same : ticket.site ≡ site = kept.site ∙ (c.is_at_rest.ensures.places site c.requires.there).place in
     let stays : StaysHost host new = subst (λ s. StaysHost (host_at pool s) (host_at c.withdraw_ticket.new.pool s)) same c.withdraw_ticket.ensures.site in
     let spends : Spends host new ticket.wait.want.transfer = subst (λ s. Spends (host_at pool s) (host_at c.withdraw_ticket.new.pool s) ticket.wait.want.transfer) same c.withdraw_ticket.ensures.spends in
     record {
@@ -91,7 +91,7 @@ abandon-requires c =
     let t = c.in_ok-transfer-2.transfer in
     let lease = c.in_ok-transfer-2.first in
     let kept = kept-lease host t lease (ap (option_map lease_facts) (sym c.in_ok-transfer-2.ensures.value) ∙ c.requires.keeps.keeps.leases t) in
-    record { here = (kept-made pool c.args.site t lease c.requires.there (c.log-log.ensures.places c.args.site c.requires.there).place kept).1 }
+    record { here = (kept-made pool c.args.site t lease c.requires.there (c.is_at_rest.ensures.places c.args.site c.requires.there).place kept).1 }
 
 pub returns-in_ok-transfer-2-clause-first : goal.returns-in_ok-transfer-2-clause-first
 returns-in_ok-transfer-2-clause-first c =
@@ -99,7 +99,7 @@ returns-in_ok-transfer-2-clause-first c =
     let host = host_at pool c.args.site in
     let t = c.in_ok-transfer-2.transfer in
     let lease = c.in_ok-transfer-2.first in
-    let sound = sound-at pool c.args.site c.requires.there c.log-log.ensures.at_rest c.log-log.ensures.places in
+    let sound = sound-at pool c.args.site c.requires.there c.is_at_rest.ensures.at_rest c.is_at_rest.ensures.places in
     let kept = kept-lease host t lease (ap (option_map lease_facts) (sym c.in_ok-transfer-2.ensures.value) ∙ c.requires.keeps.keeps.leases t) in
     let none = leased-no-ticket host sound t lease.start.number kept.leased in
     let apart : is_among t (keys c.args.self.now.tickets) ≡ false = ticketed host sound c.args.self.now.tickets.entries c.requires.keeps.keeps.tickets t ∙ ap is_some none in
@@ -114,9 +114,9 @@ returns-in_ok-transfer-2-clause-all c =
     let t = c.in_ok-transfer-2.transfer in
     let lease = c.in_ok-transfer-2.first in
     let number = lease.start.number in
-    let sound = sound-at pool site c.requires.there c.log-log.ensures.at_rest c.log-log.ensures.places in
+    let sound = sound-at pool site c.requires.there c.is_at_rest.ensures.at_rest c.is_at_rest.ensures.places in
     let kept = kept-lease host t lease (ap (option_map lease_facts) (sym c.in_ok-transfer-2.ensures.value) ∙ c.requires.keeps.keeps.leases t) in
-    let made = kept-made pool site t lease c.requires.there (c.log-log.ensures.places site c.requires.there).place kept in
+    let made = kept-made pool site t lease c.requires.there (c.is_at_rest.ensures.places site c.requires.there).place kept in
     let none = leased-no-ticket host sound t number kept.leased in
     let apart : is_among t (keys c.args.self.now.tickets) ≡ false = ticketed host sound c.args.self.now.tickets.entries c.requires.keeps.keeps.tickets t ∙ ap is_some none in
     let held : held_number (log_at (all_hosts pool) site) t ≡ Some number = ap (λ log. held_number log t) (log_is pool site) ∙ leased-held host t number kept.leased in
@@ -131,9 +131,9 @@ returns-in_ok-transfer-2-clause-keeps c =
     let new = host_at c.abandon.new.self site in
     let t = c.in_ok-transfer-2.transfer in
     let lease = c.in_ok-transfer-2.first in
-    let sound = sound-at pool site c.requires.there c.log-log.ensures.at_rest c.log-log.ensures.places in
+    let sound = sound-at pool site c.requires.there c.is_at_rest.ensures.at_rest c.is_at_rest.ensures.places in
     let kept = kept-lease host t lease (ap (option_map lease_facts) (sym c.in_ok-transfer-2.ensures.value) ∙ c.requires.keeps.keeps.leases t) in
-    let same : lease.site ≡ site = kept.site ∙ (c.log-log.ensures.places site c.requires.there).place in
+    let same : lease.site ≡ site = kept.site ∙ (c.is_at_rest.ensures.places site c.requires.there).place in
     let stays : StaysHost host new = subst (λ s. StaysHost (host_at pool s) (host_at c.abandon.new.self s)) same c.abandon.ensures.at_site.host in
     let spends : Spends host new lease.start.want.transfer = subst (λ s. Spends (host_at pool s) (host_at c.abandon.new.self s) lease.start.want.transfer) same c.abandon.ensures.spends in
     record {
@@ -151,5 +151,5 @@ returns-in_ok-transfer-2-clause-others c =
     let t = c.in_ok-transfer-2.transfer in
     let lease = c.in_ok-transfer-2.first in
     let kept = kept-lease (host_at pool site) t lease (ap (option_map lease_facts) (sym c.in_ok-transfer-2.ensures.value) ∙ c.requires.keeps.keeps.leases t) in
-    let made = kept-made pool site t lease c.requires.there (c.log-log.ensures.places site c.requires.there).place kept in
+    let made = kept-made pool site t lease c.requires.there (c.is_at_rest.ensures.places site c.requires.there).place kept in
     subst (λ s. KeepsOtherHosts s pool c.abandon.new.self) made.0 c.abandon.ensures.at_site.others
