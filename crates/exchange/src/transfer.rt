@@ -16,7 +16,7 @@ ghost use Rattle.exchange.specs.Exchanging.{DialsAt, DialsItsOwn};
 ghost use Rattle.exchange.specs.Exchanging.{IsPolled};
 ghost use Rattle.exchange.specs.Balance.{HasAll, SpendsAll};
 ghost use Rattle.exchange.specs.Waiting.{HasTicket, HasLease, IsAtWire};
-ghost use Rattle.std.specs.Bool.{OnTrue};
+ghost use Rattle.std.specs.Bool.{OnFalse, OnTrue};
 ghost use Rattle.exchange.specs.declared.state.State.TheVariants as at;
 
 use crate::connecting::{ask, claim, dial_up};
@@ -282,16 +282,18 @@ impl<W: Wire> Transfer<W> {
         self.reason
     }
 
-    /// Whether it waits for a connection, with a ticket.
+    /// True if it waits for a connection, with a ticket.
     pub fn has_ticket(&self) -> bool
-        ensures { OnTrue result (HasTicket self.now) }
+        ensures waits { OnTrue result (HasTicket self.now) }
+        ensures none { OnFalse result (HasTicket self.now → ⊥) }
     {
         matches!(self.state, Some(State::Waiting(_)))
     }
 
-    /// Whether it has a lease.
+    /// True if it has a lease.
     pub(crate) fn has_lease(&self) -> bool
-        ensures { OnTrue result (HasLease self.now) }
+        ensures holds { OnTrue result (HasLease self.now) }
+        ensures none { OnFalse result (HasLease self.now → ⊥) }
     {
         match &self.state {
             Some(state) => state.has_lease(),
@@ -299,16 +301,18 @@ impl<W: Wire> Transfer<W> {
         }
     }
 
-    /// Whether it has a lease or a ticket, so that a close spends it.
+    /// True if it has a lease or a ticket, so that a close spends it.
     pub fn has_any(&self) -> bool
-        ensures { OnTrue result (HasLease self.now ⊎ HasTicket self.now) }
+        ensures any { OnTrue result (HasLease self.now ⊎ HasTicket self.now) }
+        ensures none { OnFalse result (HasLease self.now ⊎ HasTicket self.now → ⊥) }
     {
         self.has_lease() || self.has_ticket()
     }
 
-    /// Whether it waits for its dial or its wire since its last poll, which was pending.
+    /// True if it waits for its dial or its wire since its last poll, which was pending.
     pub fn is_at_wire(&self) -> bool
-        ensures { OnTrue result (IsAtWire self.now) }
+        ensures waits { OnTrue result (IsAtWire self.now) }
+        ensures other { OnFalse result (IsAtWire self.now → ⊥) }
     {
         !self.has_yielded && self.has_lease()
     }
