@@ -5,23 +5,12 @@ use Rattle.persistence.specs.declared.facts.Facts.{Facts}
 use Rattle.client.specs.declared.fetched.Fetched.{Fetched}
 use Rattle.exchange.specs.declared.done.Done.{Done}
 use Rattle.exchange.specs.declared.done.Done.TheVariants.{Good, Bad}
-use Rattle.exchange.specs.declared.done.Fault.{Fault}
-use Rattle.exchange.specs.declared.done.Fault.TheVariants.{Memory, Dial, Read, Write, BadResponse, Cut, Refused, Cancelled}
+use Rattle.exchange.specs.declared.done.Fault.TheVariants.{Dial, Cut, Cancelled}
+use Rattle.exchange.specs.Faults.{fault_name}
 
 -- a text, as its bytes
 abbrev pub Text : Type 0
 Text = List ℕ
-
--- the name of each fault
-abbrev pub fault_name : Fault → Text
-fault_name Memory = codes "Memory"
-fault_name Dial = codes "Dial"
-fault_name Read = codes "Read"
-fault_name Write = codes "Write"
-fault_name BadResponse = codes "BadResponse"
-fault_name Cut = codes "Cut"
-fault_name (Refused refusal) = codes "Refused"
-fault_name Cancelled = codes "Cancelled"
 
 -- the words for a connection that was used before, and for a request that was sent again
 abbrev pub reuse_word : Bool → Text

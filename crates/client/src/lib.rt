@@ -1,6 +1,5 @@
-//! A client sends one request after another over a pool, and keeps its connections. Beside it is
-//! what crawls read: names of hosts, which are looked up on threads of their own, and the lines of a
-//! file of URLs.
+//! A client, which sends one request after another over a pool and keeps its connections; and
+//! input of crawls: addresses of host names, looked up on separate threads, and lines of URL files.
 #![tactic(auto)]
 
 mod client;

@@ -1,6 +1,5 @@
 //! The line of a URL as a JSON object.
 
-use crate::line::FaultName;
 use exchange::{Answer, Done, Fault};
 use run_loop::Span;
 use std::fmt;
@@ -71,7 +70,7 @@ fn write_fault<W: fmt::Write>(
     fault: Fault,
     retried: bool,
 ) -> fmt::Result {
-    let name = FaultName(fault);
+    let name = fault.name();
     write!(f, "\"status\": null, \"length\": null, \"reused\": null, ")?;
     write!(f, "\"retried\": {retried}, \"fault\": \"{name}\", ")
 }

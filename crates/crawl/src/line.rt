@@ -1,33 +1,12 @@
 //! The line of a transfer.
 
 ghost use Rattle.std.specs.Prelude.{◌≡◌, Some, IfOk, string_bytes};
-ghost use Rattle.client.specs.Lines.{end_text, fault_name, line_of, retry_word, reuse_word};
+ghost use Rattle.client.specs.Lines.{end_text, line_of, retry_word, reuse_word};
 
 use client::Fetched;
-use exchange::{Answer, Done, Fault};
+use exchange::Done;
 use std::alloc::{AllocError, Global};
 use std::fmt;
-
-/// The name of a fault.
-#[derive(Drop)]
-pub(crate) struct FaultName(pub(crate) Fault);
-
-impl fmt::Display for FaultName {
-    ghost output = { λ name. Some (fault_name name.0) };
-
-    fn fmt<W: fmt::Write>(&self, f: &mut fmt::Formatter<W>) -> fmt::Result {
-        match self.0 {
-            Fault::Memory => write!(f, "Memory"),
-            Fault::Dial => write!(f, "Dial"),
-            Fault::Read => write!(f, "Read"),
-            Fault::Write => write!(f, "Write"),
-            Fault::BadResponse => write!(f, "BadResponse"),
-            Fault::Cut => write!(f, "Cut"),
-            Fault::Refused(_) => write!(f, "Refused"),
-            Fault::Cancelled => write!(f, "Cancelled"),
-        }
-    }
-}
 
 /// The end of a transfer, in words.
 #[derive(Drop)]
@@ -45,7 +24,7 @@ impl fmt::Display for EndText {
                 write!(f, "{status} {length} {reuse}")
             }
             Done::Bad(fault) => {
-                let name = FaultName(fault);
+                let name = fault.name();
                 write!(f, "{name}")
             }
         }

@@ -1,3 +1,4 @@
+pub mod Faults
 pub mod Request
 pub mod Transfers
 pub mod Wires

@@ -1,5 +1,8 @@
 //! How a transfer ends.
 
+ghost use Rattle.std.specs.Prelude.{◌≡◌, ◌<◌};
+ghost use Rattle.exchange.specs.Faults.{fault_index, fault_name};
+
 use budget::Refusal;
 use persistence::Facts;
 
@@ -29,6 +32,44 @@ pub enum Fault {
     Refused(Refusal),
     /// It was cancelled before it had ended. A poll never gives it.
     Cancelled,
+}
+
+/// Names of the faults, by [`Fault::index`].
+pub const FAULT_NAMES: [&str; 8] = [
+    "Dial",
+    "Read",
+    "Write",
+    "BadResponse",
+    "Cut",
+    "Cancelled",
+    "Refused",
+    "Memory",
+];
+
+impl Fault {
+    /// Returns its index in [`FAULT_NAMES`].
+    pub fn index(self) -> usize
+        ensures index { result ≡ fault_index self }
+        ensures within { result < 8 }
+    {
+        match self {
+            Fault::Dial => 0,
+            Fault::Read => 1,
+            Fault::Write => 2,
+            Fault::BadResponse => 3,
+            Fault::Cut => 4,
+            Fault::Cancelled => 5,
+            Fault::Refused(_) => 6,
+            Fault::Memory => 7,
+        }
+    }
+
+    /// Returns the name of its variant.
+    pub fn name(self) -> &'static str
+        ensures { result.now ≡ fault_name self }
+    {
+        FAULT_NAMES[self.index()]
+    }
 }
 
 /// A whole response. Its connection was given back with its facts.

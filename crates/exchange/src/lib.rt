@@ -20,7 +20,7 @@ mod transferring;
 mod wire;
 
 pub use alarm::Alarm;
-pub use done::{Answer, Done, Fault};
+pub use done::{Answer, Done, FAULT_NAMES, Fault};
 pub use exchange::Exchange;
 pub use job::{Job, Prepared};
 pub use job_control::JobControl;

@@ -1,7 +1,7 @@
 -- What is counted of jobs.
 use Rattle.std.specs.Prelude.{ℕ, ◌+◌, ◌-◌, ◌/◌, ◌^◌, min, Bool, true, false, if◌then◌else◌, ◌&&◌, nat_le, nat_lt, List, [], ◌∷◌, replicate, slice_index, slice_set}
 use Rattle.exchange.specs.declared.done.Done.{Done}
-use Rattle.exchange.specs.declared.done.Fault.{Fault}
+use Rattle.exchange.specs.Faults.{fault_index}
 use Rattle.load_figures.specs.Tally.{Tally, added, nothing, recorded, values_in}
 use Rattle.load_figures.specs.declared.job_counts.JobCounts.{JobCounts}
 use Rattle.load_figures.specs.declared.outcome.Outcome.{Outcome}
@@ -47,17 +47,6 @@ abbrev pub with_status : ℕ → List ℕ → List ℕ
 with_status status counts =
     if nat_le 100 status && nat_lt status 600 then one_more_at (status / 100 - 1) counts else counts
 
--- the place of a fault among the counts
-abbrev pub place_of : Fault → ℕ
-place_of Fault.Dial = 0
-place_of Fault.Read = 1
-place_of Fault.Write = 2
-place_of Fault.BadResponse = 3
-place_of Fault.Cut = 4
-place_of Fault.Cancelled = 5
-place_of (Fault.Refused refusal) = 6
-place_of Fault.Memory = 7
-
 -- one more of what is true
 abbrev pub more_if : Bool → ℕ → ℕ
 more_if true count = capped (count + 1)
@@ -76,7 +65,7 @@ with_end (Done.Good answer) latency counts = record counts {
   bytes = capped (counts.bytes + answer.body_len);
   statuses = with_status answer.status counts.statuses;
 }
-with_end (Done.Bad fault) latency counts = record counts { faults = one_more_at (place_of fault) counts.faults }
+with_end (Done.Bad fault) latency counts = record counts { faults = one_more_at (fault_index fault) counts.faults }
 
 -- one more job: a stopped one counts as such alone
 abbrev pub counted : Done → Outcome → ℕ → JobCounts → JobCounts

@@ -2,29 +2,17 @@
 
 ghost use Rattle.std.specs.Prelude.{◌≡◌, ◌+◌, ◌<◌, length, IfOk};
 ghost use Rattle.load_figures.specs.Counts.{both_latencies, capped, counted, joined, no_job};
-ghost use Rattle.load_figures.specs.Counts.{one_more_at, place_of, sums, with_end};
+ghost use Rattle.load_figures.specs.Counts.{one_more_at, sums, with_end};
 ghost use Rattle.load_figures.specs.Counts.{with_latency, with_status};
 ghost use Rattle.exchange.specs.declared.done.Done.{Done as Ends};
 
 use crate::histogram::Histogram;
 use crate::outcome::Outcome;
-use exchange::{Answer, Done, Fault};
+use exchange::{Answer, Done};
 use std::alloc::{AllocError, Global};
 
 /// The classes of statuses, in the order of [`JobCounts::statuses`].
 pub const STATUS_NAMES: [&str; 5] = ["1xx", "2xx", "3xx", "4xx", "5xx"];
-
-/// The faults, in the order of [`JobCounts::faults`].
-pub const FAULT_NAMES: [&str; 8] = [
-    "Dial",
-    "Read",
-    "Write",
-    "BadResponse",
-    "Cut",
-    "Cancelled",
-    "Refused",
-    "Memory",
-];
 
 /// What was counted of some jobs: those of one host, or of all hosts. A count that would pass the
 /// greatest `u64` stays there.
@@ -44,7 +32,7 @@ pub struct JobCounts {
     pub bytes: u64,
     /// Whole responses by the class of their status, from 1xx on.
     pub statuses: [u64; 5],
-    /// Jobs without a whole response, by their fault.
+    /// Jobs without a whole response, by their fault's index in [`exchange::FAULT_NAMES`].
     pub faults: [u64; 8],
     /// Latencies of whole responses, in microseconds.
     pub latencies: Histogram,
@@ -82,7 +70,7 @@ impl JobCounts {
         }
         match done {
             Done::Good(answer) => self.count_answer(answer, latency_us),
-            Done::Bad(fault) => add_one(&mut self.faults, place_of(*fault)),
+            Done::Bad(fault) => add_one(&mut self.faults, fault.index()),
         }
     }
 
@@ -121,23 +109,6 @@ impl JobCounts {
         }
         self.bytes = self.bytes.saturating_add(answer.body_len);
         count_status(&mut self.statuses, answer.status);
-    }
-}
-
-/// The place of a fault in [`FAULT_NAMES`].
-fn place_of(fault: Fault) -> usize
-    ensures place { result ≡ place_of fault }
-    ensures within { result < 8 }
-{
-    match fault {
-        Fault::Dial => 0,
-        Fault::Read => 1,
-        Fault::Write => 2,
-        Fault::BadResponse => 3,
-        Fault::Cut => 4,
-        Fault::Cancelled => 5,
-        Fault::Refused(_) => 6,
-        Fault::Memory => 7,
     }
 }
 

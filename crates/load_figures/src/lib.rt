@@ -1,5 +1,5 @@
-//! What a load measures: the figures that its workers count, in all and in intervals, and
-//! histograms of latencies with two significant digits.
+//! Measurements of a load: the workers' counts, in total and by interval, and histograms of
+//! latencies with two significant digits.
 #![tactic(auto)]
 
 mod buckets;
@@ -17,5 +17,5 @@ pub use figures::Figures;
 pub use histogram::{Histogram, TooManyValues};
 pub use interval::Interval;
 pub use intervals::Intervals;
-pub use job_counts::{FAULT_NAMES, JobCounts, STATUS_NAMES};
+pub use job_counts::{JobCounts, STATUS_NAMES};
 pub use outcome::{Outcome, outcome_of};

@@ -4,7 +4,8 @@ use crate::report_numbers::{
     Bucket, Connections, HostRun, IntervalReport, JobReport, Latencies, LoadReport, LoadRun,
     OptionValue, SaidOption,
 };
-use load_figures::{FAULT_NAMES, STATUS_NAMES};
+use exchange::FAULT_NAMES;
+use load_figures::STATUS_NAMES;
 use serde_json::{Map, Value, json};
 use std::alloc::{AllocError, Global};
 

@@ -3,7 +3,8 @@
 use crate::plot::LEFT;
 use crate::report_numbers::LoadReport;
 use drawing::{Anchor, Drawing, Point};
-use load_figures::{FAULT_NAMES, STATUS_NAMES};
+use exchange::FAULT_NAMES;
+use load_figures::STATUS_NAMES;
 use std::alloc::{AllocError, Global};
 use std::fmt::Write;
 

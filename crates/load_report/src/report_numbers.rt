@@ -103,7 +103,7 @@ pub struct JobReport {
     pub bytes: u64,
     /// Whole responses by the class of their status, in the order of `STATUS_NAMES`.
     pub statuses: [u64; 5],
-    /// Jobs without a whole response by their fault, in the order of `FAULT_NAMES`.
+    /// Jobs without a whole response by their fault, in the order of `exchange::FAULT_NAMES`.
     pub faults: [u64; 8],
     /// Latencies of the whole responses, if there is one.
     pub latencies: Option<Latencies>,

@@ -3,7 +3,8 @@
 use crate::rates::per_second;
 use crate::report_numbers::{Latencies, LoadReport};
 use commands::Build;
-use load_figures::{FAULT_NAMES, STATUS_NAMES};
+use exchange::FAULT_NAMES;
+use load_figures::STATUS_NAMES;
 use std::fmt;
 
 /// The summary of a load: six lines, each with its line end, and one more if the program was
