@@ -28,12 +28,20 @@ pub record IsUnused (p : Prepared) : Type 0 where
   pub reader : p.reader ≡ unread p
   pub first : p.retried ≡ false
 
+-- the text of a job's request
+abbrev pub job_text : Job → List ℕ
+job_text job = request_text job.method (string_bytes job.target.path) (string_bytes job.target.host) job.target.port job.want.forbid_reuse
+
+-- a job as another transfer
+abbrev pub as_transfer : ℕ → Job → Job
+as_transfer number job = record job { want = record job.want { transfer = number } }
+
 -- prepared for that job: with its text
 pub record IsPrepared (job : Job) (p : Prepared) : Type 0 where
   pub site : p.site ≡ job.site
   pub want : p.want ≡ job.want
   pub method : p.method ≡ job.method
-  pub text : text_of p ≡ request_text job.method (string_bytes job.target.path) (string_bytes job.target.host) job.target.port job.want.forbid_reuse
+  pub text : text_of p ≡ job_text job
   pub unused : IsUnused p
 
 -- the same job, with the same text

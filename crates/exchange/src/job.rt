@@ -1,8 +1,8 @@
 //! What an exchange is to do, and the memory that it needs.
 
 ghost use Rattle.std.specs.Prelude.{◌≡◌, ◌<◌, [], length, IfOk, IfErr, OnOk, string_bytes};
-ghost use Rattle.exchange.specs.Request.{request_text, method_word, close_line};
-ghost use Rattle.exchange.specs.Answers.{IsPrepared, wanted};
+ghost use Rattle.exchange.specs.Request.{method_word, close_line};
+ghost use Rattle.exchange.specs.Answers.{IsPrepared, as_transfer, job_text, wanted};
 
 use conn_key::Target;
 use conn_log::Want;
@@ -23,6 +23,23 @@ pub struct Job {
     pub target: Target,
 }
 
+impl Job {
+    /// Returns the text of its request. The request line names the target's path, the Host field
+    /// its host, with the port unless that is 80, and if the want forbids reuse the request has the
+    /// connection option `close` (RFC 9112, sections 3 and 3.2; RFC 9110, section 7.6.1).
+    ///
+    /// # Errors
+    ///
+    /// There is no memory for it.
+    pub fn request_text(&self, alloc: Global) -> Result<String, AllocError>
+        ensures { IfOk result (λ text. string_bytes text ≡ job_text self.now) }
+    {
+        let mut text = String::new(alloc);
+        write_request(&mut text, self)?;
+        Ok(text)
+    }
+}
+
 /// A job with all the memory that its exchange needs: the text of its request, the reader of its
 /// response, and a buffer for what is read.
 #[derive(Drop)]
@@ -37,10 +54,7 @@ pub struct Prepared {
 }
 
 impl Prepared {
-    /// Makes the request's text and takes all memory. The request line names the target's path,
-    /// the Host field its host, with the port unless that is 80, and if the want forbids
-    /// reuse the request has the connection option `close` (RFC 9112, sections 3 and 3.2; RFC
-    /// 9110, section 7.6.1).
+    /// Makes the text of the job's request, and takes all memory.
     ///
     /// # Errors
     ///
@@ -48,16 +62,50 @@ impl Prepared {
     pub fn new(alloc: Global, job: &Job) -> Result<Prepared, AllocError>
         ensures { IfOk result (IsPrepared job.now) }
     {
-        let close = job.want.forbid_reuse;
-        let mut text = String::new(alloc);
-        write_request(&mut text, job.method, &job.target, close)?;
-        let Ok(reader) = ResponseReader::new(alloc, job.method, close) else {
+        let text = job.request_text(alloc)?;
+        Prepared::of_text(alloc, job, job.want.transfer, text)
+    }
+
+    /// Takes all memory for the job as that transfer, whose request has this text.
+    ///
+    /// Requires: `text` is the text of the job's request.
+    ///
+    /// # Errors
+    ///
+    /// There is no memory for it.
+    pub fn new_as(
+        alloc: Global,
+        job: &Job,
+        transfer: u64,
+        text: &str,
+    ) -> Result<Prepared, AllocError>
+        requires text { text.now ≡ job_text job.now }
+        ensures { IfOk result (IsPrepared (as_transfer transfer job.now)) }
+    {
+        let text = String::from_str(alloc, text)?;
+        Prepared::of_text(alloc, job, transfer, text)
+    }
+
+    // Takes all memory but that of the text.
+    fn of_text(
+        alloc: Global,
+        job: &Job,
+        transfer: u64,
+        text: String,
+    ) -> Result<Prepared, AllocError>
+        requires text { string_bytes text ≡ job_text job.now }
+        ensures { IfOk result (IsPrepared (as_transfer transfer job.now)) }
+    {
+        let Ok(reader) = ResponseReader::new(alloc, job.method, job.want.forbid_reuse) else {
             return Err(AllocError);
         };
         let buffer = vec![in alloc; 0; READ_BYTES]?;
         Ok(Prepared {
             site: job.site,
-            want: job.want,
+            want: Want {
+                transfer,
+                ..job.want
+            },
             method: job.method,
             text,
             reader,
@@ -81,17 +129,60 @@ impl Prepared {
         ensures buffer { IfErr result (λ refused. 0 < length refused.0.buffer.items) }
     {
         let mut parts = self;
-        let close = job.want.forbid_reuse;
         parts.text.clear();
-        if let Err(error) = write_request(&mut parts.text, job.method, &job.target, close) {
+        if let Err(error) = write_request(&mut parts.text, job) {
             return Err((parts, error));
         }
-        parts.reader.reset(job.method, close);
-        parts.site = job.site;
-        parts.want = job.want;
-        parts.method = job.method;
-        parts.retried = false;
+        parts.set_job(job, job.want.transfer);
         Ok(parts)
+    }
+
+    /// Prepares another job in the same memory, as that transfer. `text` is copied only if it differs
+    /// from the text that is there.
+    ///
+    /// # Errors
+    ///
+    /// There is no memory for the text. What was prepared comes back, so that another job may be
+    /// prepared with it.
+    ///
+    /// Requires: it has room to read into, as all that was prepared has, and `text` is the text of
+    /// the job's request.
+    pub fn again_as(
+        self,
+        job: &Job,
+        transfer: u64,
+        text: &str,
+    ) -> Result<Prepared, (Prepared, AllocError)>
+        requires buffer { 0 < length self.buffer.items }
+        requires text { text.now ≡ job_text job.now }
+        ensures prepared { IfOk result (IsPrepared (as_transfer transfer job.now)) }
+        ensures buffer { IfErr result (λ refused. 0 < length refused.0.buffer.items) }
+    {
+        let mut parts = self;
+        if parts.text.as_str() != text {
+            parts.text.clear();
+            if let Err(error) = parts.text.push_str(text) {
+                return Err((parts, error));
+            }
+        }
+        parts.set_job(job, transfer);
+        Ok(parts)
+    }
+
+    // Prepares all but the text for that job, as that transfer.
+    fn set_job(&mut self, job: &Job, transfer: u64)
+        requires room { 0 < length self.old.buffer.items }
+        requires text { string_bytes self.old.text ≡ job_text job.now }
+        ensures { IsPrepared (as_transfer transfer job.now) self.new }
+    {
+        self.reader.reset(job.method, job.want.forbid_reuse);
+        self.site = job.site;
+        self.want = Want {
+            transfer,
+            ..job.want
+        };
+        self.method = job.method;
+        self.retried = false;
     }
 
     /// The text of the request.
@@ -144,22 +235,16 @@ fn close_line(close: bool) -> &'static str
     if close { "Connection: close\r\n" } else { "" }
 }
 
-// Writes the text of a request into an empty text.
-fn write_request(
-    text: &mut String,
-    method: Method,
-    target: &Target,
-    close: bool,
-) -> Result<(), AllocError>
+// Writes the text of the job's request into an empty text.
+fn write_request(text: &mut String, job: &Job) -> Result<(), AllocError>
     requires { string_bytes text.old ≡ [] }
-    ensures { OnOk result (string_bytes text.new ≡ request_text method
-        (string_bytes target.now.path) (string_bytes target.now.host) target.now.port close) }
+    ensures { OnOk result (string_bytes text.new ≡ job_text job.now) }
 {
-    let word = method_word(method);
-    let path = target.path.as_str();
-    let host = target.host.as_str();
-    let option = close_line(close);
-    let port = target.port;
+    let word = method_word(job.method);
+    let path = job.target.path.as_str();
+    let host = job.target.host.as_str();
+    let option = close_line(job.want.forbid_reuse);
+    let port = job.target.port;
     if port == 80 {
         write!(
             text,

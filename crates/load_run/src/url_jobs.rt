@@ -1,62 +1,55 @@
 //! Jobs that request URLs in turn.
 
-ghost use Rattle.std.specs.Prelude.{◌≡◌, ◌<◌, ℕ, length, IfOk, IfSome, IfNone, []};
-ghost use Rattle.load_run.specs.UrlJobs.{in_turn, IsAlike};
+ghost use Rattle.std.specs.Prelude.{◌≡◌, ◌<◌, ℕ, length, map, string_bytes, IfOk, IfSome};
+ghost use Rattle.exchange.specs.Answers.{job_text};
 
 use crate::pace::Rate;
-use conn_key::Target;
-use conn_log::Want;
 use driver::JobSource;
 use exchange::{Job, Prepared};
 use std::alloc::{AllocError, Global};
 
 /// Jobs that request URLs in turn: job K is the job of URL K modulo their number, as transfer K.
-/// With a rate, each job is due later than the one before it.
+/// With a rate, each job is due later than the one before it. The text of a URL's request is
+/// written once.
 #[derive(Drop)]
 pub(crate) struct UrlJobs<'a> {
     alloc: Global,
     urls: &'a [Job],
     first: &'a Job,
+    // The text of each URL's request.
+    texts: Vec<String>,
     rate: Option<Rate>,
     ghost some: { 0 < length urls.now },
+    ghost written: { map string_bytes texts.items ≡ map job_text urls.now },
 }
 
 impl<'a> UrlJobs<'a> {
-    /// Makes the jobs of these URLs; `None` if there is no URL.
+    /// Makes the jobs of these URLs; `None` if there is no URL, or no memory.
     pub(crate) fn new(alloc: Global, urls: &'a [Job], rate: Option<Rate>) -> Option<UrlJobs<'a>>
-        ensures urls { IfSome result (λ source. source.urls.now ≡ urls.now) }
-        ensures none { IfNone result (urls.now ≡ []) }
+        ensures { IfSome result (λ source. source.urls.now ≡ urls.now) }
     {
         let (first, _) = urls.split_first()?;
+        let texts = texts_of(alloc, urls).ok()?;
         Some(UrlJobs {
             alloc,
             urls,
             first,
+            texts,
             rate,
         })
     }
+}
 
-    // Makes the job of that number.
-    fn job_of(&self, number: u64) -> Result<Job, AllocError>
-        ensures { IfOk result (IsAlike (in_turn self.now.urls.now self.now.first.now number)) }
-    {
-        let index = number % self.urls.len() as u64;
-        let url = &self.urls[index as usize];
-        let target = Target {
-            host: String::from_str(self.alloc, url.target.host.as_str())?,
-            port: url.target.port,
-            path: String::from_str(self.alloc, url.target.path.as_str())?,
-        };
-        Ok(Job {
-            site: url.site,
-            want: Want {
-                transfer: number,
-                ..url.want
-            },
-            method: url.method,
-            target,
-        })
+// Writes the texts of the requests of these URLs.
+fn texts_of(alloc: Global, urls: &[Job]) -> Result<Vec<String>, AllocError>
+    ensures { IfOk result (λ texts. map string_bytes texts.items ≡ map job_text urls.now) }
+{
+    let mut texts = Vec::new(alloc);
+    for url in urls {
+        let text = url.request_text(alloc)?;
+        texts.push(text)?;
     }
+    Ok(texts)
 }
 
 impl JobSource for UrlJobs<'_> {
@@ -72,18 +65,12 @@ impl JobSource for UrlJobs<'_> {
     }
 
     fn prepare(&self, number: u64, spare: Option<Prepared>) -> Result<Prepared, Option<Prepared>> {
-        let Ok(job) = self.job_of(number) else {
-            return Err(spare);
-        };
+        let index = (number % self.urls.len() as u64) as usize;
+        let (url, text) = (&self.urls[index], self.texts[index].as_str());
         let Some(used) = spare else {
-            let Ok(parts) = Prepared::new(self.alloc, &job) else {
-                return Err(None);
-            };
-            return Ok(parts);
+            return Prepared::new_as(self.alloc, url, number, text).map_err(|_| None);
         };
-        match used.again(&job) {
-            Ok(parts) => Ok(parts),
-            Err((left, _)) => Err(Some(left)),
-        }
+        used.again_as(url, number, text)
+            .map_err(|(left, _)| Some(left))
     }
 }
