@@ -248,11 +248,7 @@ runs_in_turn does world may_stop took was then same first second third once more
     runs_then (rules_of does world may_stop was took) first second third once (runs_as does world may_stop took then was same second third more)
 
 -- and up to its end
-pub runs_whole : {C W R : Type 0} (does : C → C → CacheCall W → Type 0) (world : World W) (may_stop : ℕ → Type 0) (took : R → R → ℕ → Done → Span → Type 0) (end : RunEnd) (was then last : ℕ → Job) → then ≡ was → last ≡ then → (first second third fourth : Point C W R)
-    → RunsOn (rules_of does world may_stop was took) first second → RunsOn (rules_at end (rules_of does world may_stop then took)) second third → RunsOn (rules_at end (rules_of does world may_stop last took)) third fourth
-    → RunsToEnd end (rules_of does world may_stop was took) first fourth
-runs_whole does world may_stop took end was then last same still first second third fourth one two three =
-    let rules_ = rules_of does world may_stop was took in
-    let may = may_stop_at end may_stop in
-    runs_to_end rules_ end first second fourth one
-    (runs_then (rules_at end rules_) second third fourth (runs_as does world may took then was same second third two) (runs_as does world may took last was (still ∙ same) third fourth three))
+pub runs_whole : {C W R : Type 0} (does : C → C → CacheCall W → Type 0) (world : World W) (may_stop : ℕ → Type 0) (took : R → R → ℕ → Done → Span → Type 0) (end : RunEnd) (was then : ℕ → Job) → then ≡ was → (first second last : Point C W R)
+    → RunsOn (rules_of does world may_stop was took) first second → RunsOn (rules_at end (rules_of does world may_stop then took)) second last → RunsToEnd end (rules_of does world may_stop was took) first last
+runs_whole does world may_stop took end was then same first second last once ends =
+    runs_to_end (rules_of does world may_stop was took) end first second last once (runs_as does world (may_stop_at end may_stop) took then was same second last ends)

@@ -22,7 +22,7 @@ use crate::timer::Timer;
 use crate::until::Until;
 use cache_trait::Cache;
 use exchange::{Dial, Done, Fault, Turned, Wire};
-use futures::task::{Context, Poll, Solo};
+use futures::task::{Poll, Solo};
 use std::alloc::{AllocError, Global};
 use std::sync::Wait;
 use std::time::Duration;
@@ -67,47 +67,6 @@ pub struct RunLoop<W: Wire> {
     // A job has ended, or the bell has rung, since the last call.
     has_news: bool,
     ghost few: { sum_by one_if_some slab.slots ≤ places },
-}
-
-// Polls the transfers of a slab that are due, in one round. Each job that ends has its result.
-fn poll_round<W: Wire, C: Cache<W>, D: Dial<W>, J: Jobs, R: Results, T: Timer>(
-    slab: &mut Slab<W>,
-    spares: &mut Spares,
-    begins: &Begins,
-    context: &mut Context<'_>,
-    cache: &mut C,
-    dial: &mut D,
-    _jobs: &J,
-    results: &mut R,
-    timer: &T,
-)
-    requires kept { AreKept (world_of W.untouched W.happened (T.tells timer.now))
-        (C.home cache.old) slab.old.slots }
-    requires readings { AreReadings (T.tells_micros timer.now) begins.now.moments.items }
-    ensures stays { C.home cache.new ≡ C.home cache.old }
-    ensures kept { AreKept (world_of W.untouched W.happened (T.tells timer.now))
-        (C.home cache.new) slab.new.slots }
-    ensures goes { RunsOn (rules_of C.did (world_of W.untouched W.happened (T.tells timer.now))
-        (T.may_stop timer.now) (J.job_at _jobs.now)
-        (TakesTimed (T.tells_micros timer.now) R.took))
-        (point cache.old (J.drawn _jobs.now) slab.old.slots results.old)
-        (point cache.new (J.drawn _jobs.now) slab.new.slots results.new) }
-    ensures fewer { sum_by one_if_some slab.new.slots
-        ≤ sum_by one_if_some slab.old.slots }
-    ensures turns { failed_turns D.shown dial.new ≡ failed_turns D.shown dial.old }
-{
-    while let Some(ended) = slab.poll_next(context, cache, dial, timer) {
-        let Ended {
-            place,
-            done,
-            parts,
-            phases,
-            reason,
-        } = ended;
-        let span = begins.span(place, phases, reason, parts.retried(), timer);
-        results.take(parts.transfer(), done, span);
-        spares.keep(Some(parts));
-    }
 }
 
 impl<W: Wire> RunLoop<W> {
@@ -176,7 +135,9 @@ impl<W: Wire> RunLoop<W> {
     {
         let mut run = self;
         run.begins.forget();
-        run.finish(rt, cache, dial, jobs, results, timer)
+        let end = run.run_on(Until::Ended, rt, cache, dial, jobs, results, timer);
+        run.shut_down(end, cache, dial, jobs, results, timer);
+        end
     }
 
     /// Carries on with the jobs under way, and with the jobs that it draws, as `run` does, and ends
@@ -211,12 +172,7 @@ impl<W: Wire> RunLoop<W> {
     {
         let mut run = self;
         let end = run.run_on(Until::Ended, rt, cache, dial, jobs, results, timer);
-        run.drop_early(end, cache, jobs, results, timer);
-        run.close_all(end, cache, dial, jobs, results, timer);
-        let _ = timer.ring(run.heard);
-        run.set_waiters(timer, false);
-        timer.fall_asleep();
-        run.destroy_empty();
+        run.shut_down(end, cache, dial, jobs, results, timer);
         end
     }
 
@@ -298,7 +254,9 @@ impl<W: Wire> RunLoop<W> {
             if timer.is_broken_off() {
                 return RunEnd::BrokenOff;
             }
-            next = self.take_round(cache, dial, jobs, results, timer);
+            self.poll_due(cache, dial, jobs, results, timer);
+            self.sweep(cache, dial, jobs, results, timer);
+            next = self.fill(cache, jobs, results, timer);
         }
         unreachable!()
     }
@@ -324,38 +282,6 @@ impl<W: Wire> RunLoop<W> {
             Until::Freed => self.has_news,
             Until::Ended => self.slab.is_empty(),
         }
-    }
-
-    // A round: polls the transfers that are due, stops jobs that are to be stopped, draws jobs and
-    // begins them. Returns when the next job may begin.
-    fn take_round<C: Cache<W>, D: Dial<W>, J: Jobs, R: Results, T: Timer>(
-        &mut self,
-        cache: &mut C,
-        dial: &mut D,
-        jobs: &mut J,
-        results: &mut R,
-        timer: &T,
-    ) -> Next
-        requires kept { AreKept (world_of W.untouched W.happened (T.tells timer.now))
-            (C.home cache.old) self.old.slab.slots }
-        requires readings { AreReadings (T.tells_micros timer.now) self.old.begins.moments.items }
-        ensures stays { C.home cache.new ≡ C.home cache.old }
-        ensures kept { AreKept (world_of W.untouched W.happened (T.tells timer.now))
-            (C.home cache.new) self.new.slab.slots }
-        ensures readings { AreReadings (T.tells_micros timer.now) self.new.begins.moments.items }
-        ensures goes { RunsOn (rules_of C.did (world_of W.untouched W.happened (T.tells
-            timer.now)) (T.may_stop timer.now) (J.job_at jobs.old)
-            (TakesTimed (T.tells_micros timer.now) R.took))
-            (point cache.old (J.drawn jobs.old) self.old.slab.slots results.old)
-            (point cache.new (J.drawn jobs.new) self.new.slab.slots results.new) }
-        ensures jobs { J.job_at jobs.new ≡ J.job_at jobs.old }
-        ensures fixed { J.kept jobs.new ≡ J.kept jobs.old }
-        ensures over { IfNever result (J.is_over jobs.new) }
-        ensures turns { failed_turns D.shown dial.new ≡ failed_turns D.shown dial.old }
-    {
-        self.poll_due(cache, dial, jobs, results, timer);
-        self.sweep(cache, dial, jobs, results, timer);
-        self.fill(cache, jobs, results, timer)
     }
 
     // Draws jobs and begins them, while a place is free and a job is due. Returns when the next job
@@ -578,17 +504,20 @@ impl<W: Wire> RunLoop<W> {
     {
         let before = self.slab.len();
         let mut context = self.task.begin();
-        poll_round(
-            &mut self.slab,
-            &mut self.spares,
-            &self.begins,
-            &mut context,
-            cache,
-            dial,
-            _jobs,
-            results,
-            timer,
-        );
+        let (slab, spares) = (&mut self.slab, &mut self.spares);
+        while let Some(ended) = slab.poll_next(&mut context, cache, dial, timer) {
+            let Ended {
+                place,
+                done,
+                parts,
+                phases,
+                reason,
+            } = ended;
+            let retried = parts.retried();
+            let span = self.begins.span(place, phases, reason, retried, timer);
+            results.take(parts.transfer(), done, span);
+            spares.keep(Some(parts));
+        }
         let turn: Poll<()> = context.yield_now();
         context.end(&turn);
         let granted = self.slab.take_granted();
@@ -692,6 +621,41 @@ impl<W: Wire> RunLoop<W> {
             self.has_news = true;
             self.slab.ask_sites();
         }
+    }
+
+    // Ends a run, as `end` says, and its loop: stops a job that was drawn early, closes the
+    // transfers under way, and rings the bell for the connections that they held.
+    fn shut_down<C: Cache<W>, D: Dial<W>, J: Jobs, R: Results, T: Timer>(
+        self,
+        end: RunEnd,
+        cache: &mut C,
+        dial: &mut D,
+        jobs: &mut J,
+        results: &mut R,
+        timer: &T,
+    )
+        requires kept { AreKept (world_of W.untouched W.happened (T.tells timer.now))
+            (C.home cache.old) self.slab.slots }
+        requires readings { AreReadings (T.tells_micros timer.now) self.begins.moments.items }
+        requires may { MayClose end (T.may_stop timer.now) self.slab.slots }
+        ensures stays { C.home cache.new ≡ C.home cache.old }
+        ensures goes { RunsOn (rules_at end (rules_of C.did (world_of W.untouched W.happened
+            (T.tells timer.now)) (T.may_stop timer.now) (J.job_at jobs.old)
+            (TakesTimed (T.tells_micros timer.now) R.took)))
+            (point cache.old (J.drawn jobs.old) self.slab.slots results.old)
+            (point cache.new (J.drawn jobs.new) [] results.new) }
+        ensures fixed { J.kept jobs.new ≡ J.kept jobs.old }
+        ensures complete { IfComplete end (jobs.new ≡ jobs.old) }
+        ensures incomplete { IfIncomplete end (J.holds_none jobs.new) }
+        ensures turns { failed_turns D.shown dial.new ≡ failed_turns D.shown dial.old }
+    {
+        let mut run = self;
+        run.drop_early(end, cache, jobs, results, timer);
+        run.close_all(end, cache, dial, jobs, results, timer);
+        let _ = timer.ring(run.heard);
+        run.set_waiters(timer, false);
+        timer.fall_asleep();
+        run.destroy_empty();
     }
 
     // A job that was drawn before it was due, if there is one, is stopped before it begins, unless
