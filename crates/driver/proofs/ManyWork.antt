@@ -87,6 +87,10 @@ is_hired {W} {F} names claim worker hired shown none empty of_cache is_new seat 
   none = none;
 }
 
+-- a worker that was hired is new
+pub is_new : {W F : Type 0} (names : CacheNames) (claim : Jobs) (worker : LoopShown W F) (hired : HiredShown W F) → IsHiredLoop names claim worker → worker.hired ≡ Some hired → IsNewWorker names claim hired
+is_new {W} {F} names claim worker hired its was = subst (λ (h : Option (HiredShown W F)). IsSomeAnd h (IsNewWorker names claim)) was its.hired
+
 -- some of the tools are left, and the others have workers, in the reverse order
 pub record IsHiring {W D F : Type 0} (failures : D → ℕ) (all left : List (Tools D F)) (workers : List (LoopShown W F)) : Type 0 where
   pub begun : List (F × ℕ)

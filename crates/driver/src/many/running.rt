@@ -1,15 +1,16 @@
 //! A run with many jobs at once over a shared cache.
 
 ghost use Rattle.exchange.specs.Dialling.{failed_turns};
-ghost use Rattle.std.specs.Prelude.{◌≡◌, ◌<◌, ◌≤◌, true, ℕ, List, reverse, vec_len, [], IfOk};
+ghost use Rattle.std.specs.Prelude.{◌≡◌, ◌+◌, ◌<◌, ◌≤◌, true, ℕ, List, reverse, vec_len, [], IfOk};
 ghost use Rattle.std.specs.Prelude.{vec_capacity, IfErr, IsErrAnd};
 ghost use Rattle.std.specs.List.{All};
-ghost use Rattle.run_loop.specs.Draws.{first_seat, new_seat};
+ghost use Rattle.budget.specs.Words.{whole};
+ghost use Rattle.run_loop.specs.Draws.{first_seat};
 ghost use Rattle.exchange.specs.Worlds.{world_of};
-ghost use Rattle.shared_cache.specs.Passes.{IsPassOf, IsNewPass};
+ghost use Rattle.shared_cache.specs.Passes.{IsPassOf};
 ghost use Rattle.run_loop.specs.Moments.{TakesTimed};
 ghost use Rattle.driver.specs.ManyWork.{IsManyRun, handed_in, handed_back, are_bad_tools};
-ghost use Rattle.driver.specs.ManyWork.{IsHiredLoop, AllBegin, Loops, LoopsFrom, left_with};
+ghost use Rattle.driver.specs.ManyWork.{IsHiredLoop, AllBegin, LoopsFrom};
 ghost use Rattle.driver.specs.ManyWork.{HaveLooped, HavePasses, IsNotBegunFor};
 
 use crate::bell::Bell;
@@ -21,7 +22,7 @@ use crate::many::job_source::JobSource;
 use crate::many::loop_states::LoopStates;
 use crate::many::loops_with_waiters::LoopsWithWaiters;
 use crate::many::run_timer::RunTimer;
-use crate::many::storage::{ManyStorage, hire_all};
+use crate::many::storage::{HiredRun, ManyStorage};
 use crate::many::worker::{Finished, LoopWorker, Ready, Tools, WorkerResult};
 use crate::running::MOST_WORKERS;
 use crate::storage::passes_for;
@@ -115,6 +116,52 @@ pub fn run_many<
     ensures passes { IfErr result (λ refused. All (IsPassOf N.names) refused.passes.items) }
     ensures fewer { IfErr result (λ refused. vec_len refused.passes ≤ vec_len tools) }
 {
+    let HiredRun {
+        claim,
+        seat,
+        mut workers,
+        finished,
+    } = hire_run(rt, alloc, cache, jobs, places, tools)?;
+    let common = Common {
+        claim: &claim,
+        source,
+        timer,
+        bell: Bell::new(),
+        waiters: LoopsWithWaiters::new(),
+        states: LoopStates::new(workers.len() as u64),
+        faults: Faults::new(),
+    };
+    loop_at_once(rt, cache, &common, alarms, &mut workers);
+    Ok(gather_work::<W, N, D, F, S, T>(&common, seat, workers, finished))
+}
+
+// Makes what a run keeps, and hires a worker for each of the tools.
+fn hire_run<W: Wire, N: Names, D: Dial<W>, F, R: Wait + RandomSource + AllocGlobal>(
+    rt: &R,
+    alloc: Global,
+    cache: &SharedCache<W, N>,
+    jobs: u64,
+    places: usize,
+    tools: Vec<Tools<D, F>>,
+) -> Result<HiredRun<W, D, F>, NotBegun<D, F>>
+    ensures some { IfOk result (λ run. 0 < vec_len run.workers) }
+    ensures jobs { IfOk result (λ run. run.claim.jobs ≡ jobs) }
+    ensures hired { IfOk result (λ run. All (IsHiredLoop N.names run.claim) run.workers.items) }
+    ensures begun { IfOk result (λ run.
+        AllBegin (reverse (handed_in (failed_turns D.shown) tools.items)) run.workers.items) }
+    ensures seat { IfOk result (λ run.
+        run.seat ≡ record (first_seat run.claim) { share = run.seat.share }) }
+    ensures share { IfOk result (λ run. run.seat.share + vec_len run.workers ≡ whole) }
+    ensures finished { IfOk result (λ run. run.finished.items ≡ []) }
+    ensures room { IfOk result (λ run. vec_len run.workers ≤ vec_capacity run.finished) }
+    ensures bad_workers { are_bad_tools (vec_len tools) places ≡ true → IsErrAnd result
+        (λ refused. (refused.fault ≡ DriverFault.BadWorkers) × (refused.passes.items ≡ [])) }
+    ensures err { IfErr result (λ refused.
+        IsNotBegunFor (vec_len tools) places refused.fault) }
+    ensures tools { IfErr result (λ refused. refused.tools ≡ tools) }
+    ensures passes { IfErr result (λ refused. All (IsPassOf N.names) refused.passes.items) }
+    ensures fewer { IfErr result (λ refused. vec_len refused.passes ≤ vec_len tools) }
+{
     let count = tools.len();
     if count == 0 || count > MOST_WORKERS || count > places {
         return Err(NotBegun {
@@ -133,74 +180,14 @@ pub fn run_many<
             });
         }
     };
-    let Ok(room) = ManyStorage::new(rt, alloc, jobs, count, places) else {
-        return Err(NotBegun {
+    match ManyStorage::new(rt, alloc, jobs, count, places) {
+        Ok(room) => Ok(room.hire::<N>(tools, passes)),
+        Err(_) => Err(NotBegun {
             fault: DriverFault::Memory,
             tools,
             passes,
-        });
-    };
-    Ok(carry_all(rt, cache, source, timer, alarms, tools, passes, room))
-}
-
-// Hires a worker for each of the tools, lets all work, and gathers what they leave.
-fn carry_all<
-    W: Wire + Send,
-    N: Names + Send + Sync,
-    D: Dial<W> + Send,
-    F: Results + Send,
-    S: JobSource + Sync,
-    T: Timer + Sync,
-    A: Alarm + Sync,
-    R: Threads + Wait + Sync,
->(
-    rt: &R,
-    cache: &SharedCache<W, N>,
-    source: &S,
-    timer: &T,
-    alarms: &[A],
-    tools: Vec<Tools<D, F>>,
-    passes: Vec<Pass<Did>>,
-    room: ManyStorage<W, D, F>,
-) -> ManyReport<D, F>
-    requires some { 0 < vec_len tools }
-    requires few { vec_len tools ≤ 64 }
-    requires passes { All (IsPassOf N.names) passes.items }
-    requires new_passes { All IsNewPass passes.items }
-    requires passes_number { vec_len passes ≡ vec_len tools }
-    requires seat { room.seat ≡ first_seat room.claim }
-    requires loops { All (λ it. it.slab.slots ≡ []) room.loops.items }
-    requires loops_number { vec_len room.loops ≡ vec_len tools }
-    requires no_workers { room.workers.items ≡ [] }
-    requires none_finished { room.finished.items ≡ [] }
-    requires room { (vec_len tools ≤ vec_capacity room.workers)
-        × (vec_len tools ≤ vec_capacity room.finished) }
-    ensures passes { HavePasses N.names result.workers.items }
-    ensures runs { IsManyRun (world_of W.untouched W.happened (T.tells timer.now)) (T.may_stop
-        timer.now) N.names (S.job_at source.now) (TakesTimed (T.tells_micros timer.now) F.took)
-        room.claim.jobs (handed_in
-        (failed_turns D.shown) tools.items) (handed_back (failed_turns D.shown)
-        result.workers.items) result.end result.drawn }
-{
-    let ManyStorage {
-        claim,
-        mut seat,
-        loops,
-        mut workers,
-        finished,
-    } = room;
-    hire_all::<W, N, D, F>(&claim, &mut seat, tools, loops, passes, &mut workers);
-    let common = Common {
-        claim: &claim,
-        source,
-        timer,
-        bell: Bell::new(),
-        waiters: LoopsWithWaiters::new(),
-        states: LoopStates::new(workers.len() as u64),
-        faults: Faults::new(),
-    };
-    loop_at_once(rt, cache, &common, alarms, &mut workers);
-    gather_work::<W, N, D, F, S, T>(&common, seat, workers, finished)
+        }),
+    }
 }
 
 // Lets all work at once.
@@ -283,61 +270,34 @@ fn work_in_loop<
         (TakesTimed (T.tells_micros common.now.timer.now) F.took) common.now.claim.now worker.old
         worker.new }
 {
-    let ready = worker.begin();
-    let left = ready.work(rt, cache, common, alarms, alarm);
-    if left.end.is_fault() {
+    let Ready {
+        places,
+        mut dial,
+        mut results,
+        seat,
+        pass,
+    } = worker.begin();
+    let mut desk = Desk::new(cache, rt, pass);
+    let mut jobs = DrawnJobs::new(common.claim, common.source, seat);
+    let timer = RunTimer {
+        timer: common.timer,
+        faults: &common.faults,
+        bell: &common.bell,
+        waiters: &common.waiters,
+        states: &common.states,
+        alarms,
+        own: alarm,
+        woken: AtomicU64::new(0),
+    };
+    let end = places.run(rt, &mut desk, &mut dial, &mut jobs, &mut results, &timer);
+    if end.is_fault() {
         common.faults.meet();
     }
-    worker.leave(left);
-}
-
-impl<W: Wire, D: Dial<W>, F: Results> Ready<W, D, F> {
-    // Carries out jobs until its loop ends.
-    fn work<N: Names, S: JobSource, T: Timer, A: Alarm, R: Wait>(
-        self,
-        rt: &R,
-        cache: &SharedCache<W, N>,
-        common: &Common<'_, S, T>,
-        alarms: &[A],
-        alarm: usize,
-    ) -> WorkerResult<D, F>
-        requires empty { self.places.slab.slots ≡ [] }
-        requires of_cache { IsPassOf N.names self.pass }
-        requires new_pass { IsNewPass self.pass }
-        requires seat { self.seat ≡ new_seat common.now.claim.now }
-        ensures { Loops (world_of W.untouched W.happened (T.tells common.now.timer.now))
-            (T.may_stop common.now.timer.now) N.names (S.job_at common.now.source.now)
-            (TakesTimed (T.tells_micros common.now.timer.now) F.took)
-            common.now.claim.now (self.results, failed_turns D.shown self.dial)
-            (left_with result.results (failed_turns D.shown result.dial) result.seat result.pass
-            result.end) }
-    {
-        let Ready {
-            places,
-            mut dial,
-            mut results,
-            seat,
-            pass,
-        } = self;
-        let mut desk = Desk::new(cache, rt, pass);
-        let mut jobs = DrawnJobs::new(common.claim, common.source, seat);
-        let timer = RunTimer {
-            timer: common.timer,
-            faults: &common.faults,
-            bell: &common.bell,
-            waiters: &common.waiters,
-            states: &common.states,
-            alarms,
-            own: alarm,
-            woken: AtomicU64::new(0),
-        };
-        let end = places.run(rt, &mut desk, &mut dial, &mut jobs, &mut results, &timer);
-        WorkerResult {
-            dial,
-            results,
-            seat: jobs.into_seat(),
-            pass: desk.into_pass(),
-            end,
-        }
-    }
+    worker.leave(WorkerResult {
+        dial,
+        results,
+        seat: jobs.into_seat(),
+        pass: desk.into_pass(),
+        end,
+    });
 }

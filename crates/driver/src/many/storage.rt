@@ -32,6 +32,16 @@ pub(crate) struct ManyStorage<W: Wire, D: Dial<W>, F> {
     pub(crate) finished: Vec<Finished<D, F>>,
 }
 
+/// The storage of a run and its workers, which have not begun.
+pub(crate) struct HiredRun<W: Wire, D: Dial<W>, F> {
+    pub(crate) claim: JobCounter,
+    /// It has drawn nothing. The workers' seats were split from it.
+    pub(crate) seat: JobSeat,
+    pub(crate) workers: Vec<LoopWorker<W, D, F>>,
+    /// None yet, with room for all.
+    pub(crate) finished: Vec<Finished<D, F>>,
+}
+
 impl<W: Wire, D: Dial<W>, F> ManyStorage<W, D, F> {
     /// For so many jobs, workers and places.
     ///
@@ -76,6 +86,50 @@ impl<W: Wire, D: Dial<W>, F> ManyStorage<W, D, F> {
             workers,
             finished,
         })
+    }
+
+    /// Makes a worker for each of these tools, each with one of the passes.
+    pub(crate) fn hire<N: Names>(
+        self,
+        tools: Vec<Tools<D, F>>,
+        passes: Vec<Pass<Did>>,
+    ) -> HiredRun<W, D, F>
+        requires few { vec_len tools ≤ 64 }
+        requires seat { self.seat ≡ first_seat self.claim }
+        requires loops { All (λ it. it.slab.slots ≡ []) self.loops.items }
+        requires loops_number { vec_len self.loops ≡ vec_len tools }
+        requires passes { All (IsPassOf N.names) passes.items }
+        requires new_passes { All IsNewPass passes.items }
+        requires passes_number { vec_len passes ≡ vec_len tools }
+        requires no_workers { self.workers.items ≡ [] }
+        requires none_finished { self.finished.items ≡ [] }
+        requires room { (vec_len tools ≤ vec_capacity self.workers)
+            × (vec_len tools ≤ vec_capacity self.finished) }
+        ensures jobs { result.claim.jobs ≡ self.claim.jobs }
+        ensures hired { All (IsHiredLoop N.names result.claim) result.workers.items }
+        ensures begun { AllBegin (reverse (handed_in (failed_turns D.shown) tools.items))
+            result.workers.items }
+        ensures number { vec_len result.workers ≡ vec_len tools }
+        ensures seat { result.seat ≡ record (first_seat result.claim)
+            { share = result.seat.share } }
+        ensures share { result.seat.share + vec_len result.workers ≡ whole }
+        ensures finished { result.finished.items ≡ [] }
+        ensures capacity { vec_len result.workers ≤ vec_capacity result.finished }
+    {
+        let ManyStorage {
+            claim,
+            mut seat,
+            loops,
+            mut workers,
+            finished,
+        } = self;
+        hire_all::<W, N, D, F>(&claim, &mut seat, tools, loops, passes, &mut workers);
+        HiredRun {
+            claim,
+            seat,
+            workers,
+            finished,
+        }
     }
 }
 
@@ -128,8 +182,8 @@ fn destroy_all<W: Wire>(loops: Vec<RunLoop<W>>)
     loops.destroy_empty();
 }
 
-/// A worker of each tools, with a loop, a seat and a pass of its own.
-pub(crate) fn hire_all<W: Wire, N: Names, D: Dial<W>, F>(
+// Makes a worker for each of the tools, each with its loop, its seat and its pass.
+fn hire_all<W: Wire, N: Names, D: Dial<W>, F>(
     claim: &JobCounter,
     seat: &mut JobSeat,
     tools: Vec<Tools<D, F>>,
