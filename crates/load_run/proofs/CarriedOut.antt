@@ -1,5 +1,5 @@
 -- What a run of a load has carried out.
-use Rattle.std.proofs.Common.{◌≡◌, ◌∙◌, ap, ap₂, refl, sym, subst, ℕ, get_or, List, [], ◌∷◌, length, map, reverse, Result, Ok, Err, IfOk, OnOk, false}
+use Rattle.std.proofs.Common.{◌≡◌, ◌∙◌, ap, ap₂, refl, sym, subst, ℕ, get_or, List, [], ◌∷◌, length, map, reverse, false}
 use Rattle.std.specs.List.{All}
 use Rattle.std.proofs.lemmas.List.{length-map}
 use Rattle.std.proofs.lemmas.List.Elements.{All-map}
@@ -14,8 +14,6 @@ use Rattle.driver.specs.declared.many.worker.Tools.{Tools}
 use Rattle.driver.specs.declared.many.worker.Finished.{Finished}
 use Rattle.driver.specs.ManyWork.{IsManyRun, back_of, begun_of}
 use Rattle.load_figures.specs.Figures.{JobFigures, no_figures}
-use Rattle.load_run.specs.declared.error.LoadError.{LoadError}
-use Rattle.load_run.specs.declared.loading.Ran.{Ran}
 use Rattle.load_run.specs.declared.account.Collected.{Collected}
 use Rattle.load_run.specs.declared.counted_results.CountedResults.{CountedResults}
 use Rattle.load_run.specs.declared.counted_results.Counting.{Counting}
@@ -41,7 +39,7 @@ module _ {W D : Type 0} (world : World W) (may_stop is_reading : ℕ → Type 0)
       sym backs ∙ begins
 
   module _ (begin_is : (own : Tools D CountedResults) → (begin own).0 ≡ own.results) (back_is : (own : Finished D CountedResults) → ((back own).0 ≡ own.results) × ((back own).2 ≡ own.pass)) where
-    has_carried_out : (old new : Collected) (told hosts : ℕ) (counting : Counting) → Collects old new workers → told ≡ drawn → is_fault end ≡ false → IsNone hosts old → All (λ (own : Tools D CountedResults). IsUncounted hosts counting own.results) tools
+    pub has_carried_out : (old new : Collected) (told hosts : ℕ) (counting : Counting) → Collects old new workers → told ≡ drawn → is_fault end ≡ false → IsNone hosts old → All (λ (own : Tools D CountedResults). IsUncounted hosts counting own.results) tools
         → HasCarriedOut world may_stop is_reading names job_at jobs (length tools) hosts counting new told
     has_carried_out old new told hosts counting collects same sound none uncounted =
         let each : All (λ (own : Tools D CountedResults). IsUncounted hosts counting (begin own).0) tools = λ k d within. subst (IsUncounted hosts counting) (sym (begin_is (get_or tools k d))) (uncounted k d within) in
@@ -58,8 +56,3 @@ module _ {W D : Type 0} (world : World W) (may_stop is_reading : ℕ → Type 0)
           unbegun_is = collects.unbegun ∙ ap (λ (n : ℕ). with_unbegun n (reverse (map (results_in {D = D}) workers))) none.unbegun ∙ sym (ap (λ (l : List CountedResults). with_unbegun 0 (reverse l)) (results_back back back_is workers));
           passes_are = collects.passes ∙ sym (ap (λ (l : List Accounts). reverse l) (passes_back back back_is workers));
         }
-
-    pub if_carried_out : (old : Collected) (result : Result Ran LoadError) (hosts : ℕ) (counting : Counting) → IfOk result (λ ran. Collects old ran.collected workers) → IfOk result (λ ran. ran.drawn ≡ drawn) → OnOk result (is_fault end ≡ false) → IsNone hosts old
-        → All (λ (own : Tools D CountedResults). IsUncounted hosts counting own.results) tools → IfOk result (λ ran. HasCarriedOut world may_stop is_reading names job_at jobs (length tools) hosts counting ran.collected ran.drawn)
-    if_carried_out old (Ok ran) hosts counting collects same sound none uncounted = has_carried_out old ran.collected ran.drawn hosts counting collects same sound none uncounted
-    if_carried_out old (Err error) hosts counting collects same sound none uncounted = tt

@@ -8,6 +8,7 @@ pub mod WhatMayBeLoaded
 pub mod LoadTraces
 pub mod UnknownSites
 pub mod OwnJobs
+pub mod RequestTexts
 pub mod Outcomes
 pub mod SitePlaces
 pub mod FirstNumbers

@@ -1,28 +1,37 @@
 -- What a load with many jobs at once leaves, by what its run and its account leave.
-use Rattle.std.proofs.Common.{◌≡◌, subst, sym, ℕ, ◌+◌, ◌-◌, ◌<◌, min, List, length, Result, Ok, Err, IfOk, arith}
+use Rattle.std.proofs.Common.{◌≡◌, subst, sym, ℕ, ◌-◌, ◌<◌, List, length, Result, Ok, Err, IfOk}
 use Rattle.exchange.specs.declared.job.Job.{Job}
 use Rattle.exchange.specs.Worlds.{World}
 use Rattle.shared_cache.specs.Names.{CacheNames, IsPlanFor}
 use Rattle.shared_cache.specs.Gathering.{IsGathered}
+use Rattle.load_run.specs.declared.account.Collected.{Collected}
 use Rattle.load_run.specs.declared.error.LoadError.{LoadError}
 use Rattle.load_run.specs.declared.loading.LoadedMany.{LoadedMany}
 use Rattle.load_run.specs.declared.loading.Ran.{Ran}
+use Rattle.load_run.specs.declared.plan.LoadTimes.{LoadTimes}
 use Rattle.load_run.specs.declared.plan.ManyPlan.{ManyPlan}
 use Rattle.load_run.specs.Counting.{missed_of, warm_of}
 use Rattle.load_run.specs.ManyLoads.{AreLogsIn, HasCarriedOut, HasRun, IsLoadedMany, IsLoadedManyBy, counting_of, jobs_of, workers_of}
+use Rattle.load_run.specs.Stopping.{MayStop}
 use Rattle.load_run.specs.UrlJobs.{in_turn}
 
+-- the times and the watcher by which a job may be stopped are those of the load
+pub may_stop_by : {W V : Type 0} (world : World W) (is_reading : ℕ → Type 0) (names : CacheNames) (plan : ManyPlan) (may_end : V → Type 0) (times own_times : LoadTimes) (watch own_watch : V) (result : Result LoadedMany LoadError) → times ≡ own_times → watch ≡ own_watch
+    → IfOk result (IsLoadedManyBy world (λ number. MayStop times (may_end watch)) is_reading names plan) → IfOk result (IsLoadedManyBy world (λ number. MayStop own_times (may_end own_watch)) is_reading names plan)
+may_stop_by world is_reading names plan may_end times own_times watch own_watch result same_times same_watch by =
+    subst (λ (t : LoadTimes). IfOk result (IsLoadedManyBy world (λ number. MayStop t (may_end own_watch)) is_reading names plan)) same_times
+    (subst (λ (w : _). IfOk result (IsLoadedManyBy world (λ number. MayStop times (may_end w)) is_reading names plan)) same_watch by)
+
 module _ {W : Type 0} (world : World W) (may_stop is_reading : ℕ → Type 0) (names : CacheNames) (plan : ManyPlan) where
-  pub has_run : (urls : List Job) (otherwise : Job) (jobs workers : ℕ) (result : Result Ran LoadError) → urls ≡ plan.urls.now → 0 < length urls → jobs ≡ jobs_of plan.jobs → workers ≡ workers_of plan
-      → IfOk result (λ ran. HasCarriedOut world may_stop is_reading names (in_turn urls otherwise) jobs workers plan.hosts (counting_of plan) ran.collected ran.drawn) → IfOk result (λ ran. HasRun world may_stop is_reading names plan ran.collected ran.drawn)
-  has_run urls otherwise jobs workers (Ok ran) same some all many carried_out = record {
+  pub has_run : (urls : List Job) (otherwise : Job) (jobs workers : ℕ) (collected : Collected) (drawn : ℕ) → urls ≡ plan.urls.now → 0 < length urls → jobs ≡ jobs_of plan.jobs → workers ≡ workers_of plan
+      → HasCarriedOut world may_stop is_reading names (in_turn urls otherwise) jobs workers plan.hosts (counting_of plan) collected drawn → HasRun world may_stop is_reading names plan collected drawn
+  has_run urls otherwise jobs workers collected drawn same some all many carried_out = record {
     otherwise = otherwise;
     some = subst (λ (list : List Job). 0 < length list) same some;
-    carried_out = subst (λ (list : List Job). HasCarriedOut world may_stop is_reading names (in_turn list otherwise) (jobs_of plan.jobs) (workers_of plan) plan.hosts (counting_of plan) ran.collected ran.drawn) same
-        (subst (λ (n : ℕ). HasCarriedOut world may_stop is_reading names (in_turn urls otherwise) (jobs_of plan.jobs) n plan.hosts (counting_of plan) ran.collected ran.drawn) many
-        (subst (λ (n : ℕ). HasCarriedOut world may_stop is_reading names (in_turn urls otherwise) n workers plan.hosts (counting_of plan) ran.collected ran.drawn) all carried_out));
+    carried_out = subst (λ (list : List Job). HasCarriedOut world may_stop is_reading names (in_turn list otherwise) (jobs_of plan.jobs) (workers_of plan) plan.hosts (counting_of plan) collected drawn) same
+        (subst (λ (n : ℕ). HasCarriedOut world may_stop is_reading names (in_turn urls otherwise) (jobs_of plan.jobs) n plan.hosts (counting_of plan) collected drawn) many
+        (subst (λ (n : ℕ). HasCarriedOut world may_stop is_reading names (in_turn urls otherwise) n workers plan.hosts (counting_of plan) collected drawn) all carried_out));
   }
-  has_run urls otherwise jobs workers (Err error) same some all many carried_out = tt
 
   pub loaded_many_by : (ran : Ran) (jobs : ℕ) (result : Result LoadedMany LoadError) → jobs ≡ jobs_of plan.jobs → HasRun world may_stop is_reading names plan ran.collected ran.drawn → is_reading ran.ended → IfOk result (λ loaded. loaded.drawn ≡ ran.drawn)
       → IfOk result (λ loaded. loaded.figures ≡ ran.collected.figures) → IfOk result (λ loaded. loaded.elapsed ≡ ran.ended - warm_of plan.times)
@@ -44,7 +53,3 @@ module _ {W : Type 0} (world : World W) (may_stop is_reading : ℕ → Type 0) (
   pub loaded_many : (result : Result LoadedMany LoadError) → IsPlanFor plan.limits plan.hosts names → IfOk result (IsLoadedManyBy world may_stop is_reading names plan) → IfOk result (IsLoadedMany world may_stop is_reading plan)
   loaded_many (Ok loaded) planned by = record { names = names; planned = planned; by_them = by }
   loaded_many (Err error) planned by = tt
-
--- so many of a list are left once it is cut
-pub few_left : (most all left : ℕ) → left + (all - most) ≡ all → left ≡ min most all
-few_left most all left is = omega (arith, is)

@@ -1,5 +1,5 @@
 -- What a load with many jobs at once leaves.
-use Rattle.std.specs.Prelude.{◌≡◌, ℕ, ◌-◌, ◌<◌, List, [], length, map, min, reverse, Option, Some, None, true, false}
+use Rattle.std.specs.Prelude.{◌≡◌, ℕ, ◌-◌, ◌<◌, List, [], length, map, min, reverse, Option, Some, None, false}
 use Rattle.std.specs.List.{All}
 use Rattle.std.specs.Global.{Vec}
 use Rattle.conn_log.specs.declared.entry.Entry.{Entry}
@@ -11,12 +11,8 @@ use Rattle.shared_cache.specs.Gathering.{IsGathered}
 use Rattle.run_loop.specs.declared.run_end.RunEnd.{RunEnd}
 use Rattle.run_loop.specs.Going.{is_fault}
 use Rattle.run_loop.specs.Moments.{TakesTimed}
-use Rattle.driver.specs.declared.fault.DriverFault.TheVariants.{BadWorkers}
 use Rattle.driver.specs.declared.many.worker.Finished.{Finished}
-use Rattle.driver.specs.Faults.{IsWorkerFault}
-use Rattle.driver.specs.ManyWork.{IsManyRun, are_bad_tools}
-use Rattle.load_run.specs.declared.error.LoadError.{LoadError}
-use Rattle.load_run.specs.declared.error.LoadError.TheVariants.{Run, Gather}
+use Rattle.driver.specs.ManyWork.{IsManyRun}
 use Rattle.load_run.specs.declared.counted_results.CountedResults.{CountedResults}
 use Rattle.load_run.specs.declared.loading.LoadedMany.{LoadedMany}
 use Rattle.load_run.specs.declared.plan.ManyPlan.{ManyPlan}
@@ -106,13 +102,6 @@ pub record IsLoadedMany {W : Type 0} (world : World W) (may_stop is_reading : �
   pub names : CacheNames
   pub planned : IsPlanFor plan.limits plan.hosts names
   pub by_them : IsLoadedManyBy world may_stop is_reading names plan loaded
-
--- The reason that a run did not begin, or has no account: bad tools, and then `tools` and `places` are bad; else an
--- allocation failure or a poller's fault.
-abbrev pub IsManyRefusedFor : ℕ → ℕ → LoadError → Type 0
-IsManyRefusedFor tools places (Run BadWorkers) = are_bad_tools tools places ≡ true
-IsManyRefusedFor tools places (Run fault) = IsWorkerFault fault
-IsManyRefusedFor tools places Gather = Unit {0}
 
 -- the logs of the hosts of a cache whose connections are those of that world
 abbrev pub AreLogsIn : {W : Type 0} → World W → CacheNames → List (Vec Entry) → Type 0

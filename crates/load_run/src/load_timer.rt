@@ -1,7 +1,9 @@
 //! The timer of a load. It stops jobs, ends the run, and cuts the logs.
 
+ghost use Rattle.std.specs.Prelude.{◌≡◌};
 ghost use Rattle.load_run.specs.Stopping.{MayStop};
 
+use crate::load_clock::LoadClock;
 use crate::plan::LoadTimes;
 use crate::progress::Progress;
 use crate::wait_sum::WaitSum;
@@ -10,7 +12,7 @@ use bundle::Bundle;
 use exchange::Clock;
 use run_loop::{MicroClock, Timer, is_late};
 use shared_cache::{Names, SharedCache};
-use socket::PolledWire;
+use socket::{PolledWire, SystemClock};
 use std::sync::Wait;
 use std::sync::atomic::{AtomicBool, AtomicU64, Ordering};
 
@@ -40,6 +42,34 @@ pub(crate) struct LoadTimer<'a, N: Names, R: Wait, V: Watch, K: MicroClock> {
     /// True while a thread cuts the logs.
     pub(crate) is_cutting: AtomicBool,
     pub(crate) waits: WaitSum,
+}
+
+impl<'a, N: Names, R: Wait, V: Watch> LoadTimer<'a, N, R, V, LoadClock<'a>> {
+    /// Makes the timer of a load that starts now.
+    pub(crate) fn new(
+        rt: &'a R,
+        system: &'a HostRuntime,
+        cache: &'a SharedCache<PolledWire, N>,
+        times: LoadTimes,
+        watch: &'a V,
+        progress: &'a [Progress],
+    ) -> LoadTimer<'a, N, R, V, LoadClock<'a>>
+        ensures times { result.times ≡ times }
+        ensures watch { result.watch.now ≡ watch.now }
+    {
+        LoadTimer {
+            rt,
+            clock: LoadClock(SystemClock::or_still(system)),
+            cache,
+            times,
+            watch,
+            progress,
+            swept: AtomicU64::new(0),
+            cut: AtomicU64::new(0),
+            is_cutting: AtomicBool::new(false),
+            waits: WaitSum::new(),
+        }
+    }
 }
 
 impl<N: Names, R: Wait, V: Watch, K: MicroClock> LoadTimer<'_, N, R, V, K> {

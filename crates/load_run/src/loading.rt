@@ -7,26 +7,23 @@ ghost use Rattle.exchange.specs.Worlds.{world_of};
 ghost use Rattle.shared_cache.specs.Gathering.{IsGathered};
 ghost use Rattle.shared_cache.specs.Passes.{IsPassOf};
 ghost use Rattle.driver.specs.Faults.{are_bad_workers};
-ghost use Rattle.driver.specs.ManyWork.{HavePasses, are_bad_tools};
+ghost use Rattle.driver.specs.ManyWork.{HavePasses};
 ghost use Rattle.load_run.specs.Loading.{IsLoadRefusedFor};
-ghost use Rattle.load_run.specs.ManyLoads.{AreLogsIn, Collects, HasCarriedOut, HasRun};
-ghost use Rattle.load_run.specs.ManyLoads.{IsLoadedMany, IsLoadedManyBy, IsManyRefusedFor, IsNone};
-ghost use Rattle.load_run.specs.ManyLoads.{jobs_of, workers_of};
+ghost use Rattle.load_run.specs.ManyLoads.{AreLogsIn, Collects, IsLoadedMany, IsLoadedManyBy};
+ghost use Rattle.load_run.specs.ManyLoads.{IsNone, counting_of, jobs_of, workers_of};
 ghost use Rattle.load_run.specs.Counting.{IsUncounted, missed_of, warm_of};
 ghost use Rattle.load_run.specs.Stopping.{MayStop};
-ghost use Rattle.load_run.specs.UrlJobs.{in_turn};
 ghost use Rattle.run_loop.specs.Going.{is_fault};
 
 use crate::account::Collected;
 use crate::counted_results::{CountedResults, Counting};
 use crate::error::LoadError;
-use crate::load_clock::LoadClock;
 use crate::load_timer::LoadTimer;
 use crate::logs::{cut_logs, error_of};
 use crate::plan::{LoadTimes, ManyPlan};
+use crate::progress::Progress;
 use crate::tools::{alarms_of, progress_for, tools_for};
 use crate::url_jobs::UrlJobs;
-use crate::wait_sum::WaitSum;
 use crate::watch::Watch;
 use budget::Refusal;
 use conn_log::Entry;
@@ -35,12 +32,11 @@ use exchange::Wire;
 use load_figures::Figures;
 use run_loop::MicroClock;
 use shared_cache::{Gathered, Names, Plan, SharedCache, discard_all};
-use socket::{PolledDial, PolledWire, SystemClock};
+use socket::{PolledAlarm, PolledDial, PolledWire};
 use std::alloc::{AllocGlobal, Global};
 use std::marker::Brand;
 use std::random::RandomSource;
 use std::sync::Wait;
-use std::sync::atomic::{AtomicBool, AtomicU64};
 use std::thread::Threads;
 
 /// Maximum number of jobs of a load. A counter can draw no more.
@@ -136,132 +132,106 @@ fn load_over<
     let Ok(cache) = made else {
         return Err(LoadError::Run(DriverFault::Memory));
     };
-    let times = plan.times;
-    let jobs = plan.jobs.unwrap_or(MOST_JOBS);
-    let ran = run_over(rt, system, alloc, &cache, jobs, plan, watch)?;
+    let (times, places) = (plan.times, plan.connections as usize);
+    let jobs = job_count(plan.jobs);
+    let Ok(progress) = progress_for(alloc, places.min(plan.addresses.len())) else {
+        return Err(LoadError::Run(DriverFault::Memory));
+    };
+    let LoadParts {
+        source,
+        tools,
+        alarms,
+        collected,
+    } = LoadParts::new(system, alloc, plan, &progress)?;
+    let timer = LoadTimer::new(rt, system, &cache, times, watch, &progress);
+    let report = match run_many(
+        rt, alloc, &cache, &source, jobs, places, tools, &alarms, &timer,
+    ) {
+        Ok(report) => report,
+        Err(refused) => return Err(collected.not_begun(refused)),
+    };
+    let ran = collected.ran::<N>(report, timer.moment(), timer.waits.micros())?;
+    drop(timer);
     account_of(rt, alloc, cache, ran, times, jobs)
 }
 
-// Runs `jobs` jobs over that cache.
-fn run_over<
-    N: Names + Send + Sync,
-    R: Threads + Wait + RandomSource + AllocGlobal + Sync,
-    V: Watch + Sync,
->(
-    rt: &R,
-    system: &HostRuntime,
-    alloc: Global,
-    cache: &SharedCache<PolledWire, N>,
-    jobs: u64,
-    plan: ManyPlan<'_>,
-    watch: &V,
-) -> Result<Ran, LoadError>
-    requires { jobs ≡ jobs_of plan.jobs }
-    ensures ok { IfOk result (λ ran. HasRun (world_of ⟦<PolledWire as Wire>⟧.untouched
-        ⟦<PolledWire as Wire>⟧.happened (λ moment. ⊤))
-        (λ number. MayStop plan.entry.times (V.may_end watch.now)) (λ moment. ⊤) N.names
-        plan.entry ran.collected ran.drawn) }
-    ensures of_cache { IfOk result (λ ran. All (IsPassOf N.names) ran.collected.passes.items) }
-    ensures workers { OnOk result (are_bad_workers (workers_of plan.entry) ≡ false) }
-    ensures refused { IfErr result (IsLoadRefusedFor (workers_of plan.entry)) }
+// Returns the number of jobs; all that can be drawn, if it is not limited.
+fn job_count(jobs: Option<u64>) -> u64
+    ensures { result ≡ jobs_of jobs }
 {
-    let counting = Counting {
-        urls: plan.urls,
-        times: plan.times,
-        fails_statuses: plan.fails_statuses,
-    };
-    let Some(source) = UrlJobs::new(alloc, plan.urls, plan.times.rate) else {
-        return Err(LoadError::Run(DriverFault::Memory));
-    };
-    let places = plan.connections as usize;
-    let mut addresses = plan.addresses;
-    addresses.truncate(places);
-    let Ok(progress) = progress_for(alloc, addresses.len()) else {
-        return Err(LoadError::Run(DriverFault::Memory));
-    };
-    let collected = Collected::new(alloc, plan.hosts, addresses.len())?;
-    let tools = match tools_for(system, alloc, addresses, plan.hosts, counting, &progress) {
-        Ok(tools) => tools,
-        Err(error) => {
-            collected.discard();
-            return Err(error);
-        }
-    };
-    let timer = LoadTimer {
-        rt,
-        clock: LoadClock(SystemClock::or_still(system)),
-        cache,
-        times: plan.times,
-        watch,
-        progress: &progress,
-        swept: AtomicU64::new(0),
-        cut: AtomicU64::new(0),
-        is_cutting: AtomicBool::new(false),
-        waits: WaitSum::new(),
-    };
-    carry_out(
-        rt, alloc, cache, &source, jobs, places, tools, collected, &timer,
-    )
+    jobs.unwrap_or(MOST_JOBS)
 }
 
-// Runs `jobs` jobs with these tools, at most `places` at once.
-fn carry_out<
-    N: Names + Send + Sync,
-    R: Threads + Wait + RandomSource + AllocGlobal + Sync,
-    V: Watch + Sync,
-    K: MicroClock + Sync,
->(
-    rt: &R,
-    alloc: Global,
-    cache: &SharedCache<PolledWire, N>,
-    source: &UrlJobs<'_>,
-    jobs: u64,
-    places: usize,
-    tools: Vec<Tools<PolledDial<'_, HostRuntime>, CountedResults<'_>>>,
+/// What a run needs beside its cache and its timer.
+struct LoadParts<'a> {
+    source: UrlJobs<'a>,
+    /// The tools of each thread.
+    tools: Vec<Tools<PolledDial<'a, HostRuntime>, CountedResults<'a>>>,
+    /// The alarm of each thread's dial.
+    alarms: Vec<PolledAlarm>,
+    /// Nothing yet, with memory for the passes of all threads.
     collected: Collected,
-    timer: &LoadTimer<'_, N, R, V, K>,
-) -> Result<Ran, LoadError>
-    requires none { collected.passes.items ≡ [] }
-    requires room { vec_len tools ≤ vec_capacity collected.passes }
-    ensures ok { (hosts : ℕ) (counting : _) → IsNone hosts collected
-        → All (λ own. IsUncounted hosts counting own.results) tools.entry.items
-        → IfOk result (λ ran. HasCarriedOut (world_of ⟦<PolledWire as Wire>⟧.untouched
-        ⟦<PolledWire as Wire>⟧.happened (K.tells timer.now.clock))
-        (λ number. MayStop timer.now.times (V.may_end timer.now.watch.now))
-        (K.tells_micros timer.now.clock) N.names (in_turn source.now.urls.now
-        source.now.first.now) jobs (length tools.entry.items) hosts counting ran.collected
-        ran.drawn) }
-    ensures ended { IfOk result (λ ran. K.tells_micros timer.now.clock ran.ended) }
-    ensures of_cache { IfOk result (λ ran. All (IsPassOf N.names) ran.collected.passes.items) }
-    ensures workers { OnOk result (are_bad_tools (vec_len tools.entry) places ≡ false) }
-    ensures refused { IfErr result (IsManyRefusedFor (vec_len tools.entry) places) }
-{
-    let alarms = match alarms_of(alloc, &tools) {
-        Ok(alarms) => alarms,
-        Err(error) => {
-            collected.discard();
-            return Err(error);
-        }
-    };
-    match run_many(
-        rt, alloc, cache, source, jobs, places, tools, &alarms, timer,
-    ) {
-        Ok(report) => collected.ran::<N>(report, timer.moment(), timer.waits.micros()),
-        Err(
-            NotBegun {
-                fault,
-                tools: _,
-                passes,
-            },
-        ) => {
-            discard_all(passes);
-            collected.discard();
-            Err(LoadError::Run(fault))
-        }
+}
+
+impl<'a> LoadParts<'a> {
+    // Makes the parts of a run by that plan. Each thread reports its progress in its place.
+    fn new(
+        system: &'a HostRuntime,
+        alloc: Global,
+        plan: ManyPlan<'a>,
+        progress: &'a [Progress],
+    ) -> Result<LoadParts<'a>, LoadError>
+        requires { length progress.now ≡ workers_of plan }
+        ensures urls { IfOk result (λ parts. parts.source.urls.now ≡ plan.entry.urls.now) }
+        ensures number { IfOk result (λ parts. vec_len parts.tools ≡ workers_of plan.entry) }
+        ensures uncounted { IfOk result (λ parts.
+            All (λ own. IsUncounted plan.entry.hosts (counting_of plan.entry) own.results)
+            parts.tools.items) }
+        ensures none { IfOk result (λ parts. IsNone plan.entry.hosts parts.collected) }
+        ensures room { IfOk result (λ parts.
+            vec_len parts.tools ≤ vec_capacity parts.collected.passes) }
+        ensures refused { (workers : ℕ) → IfErr result (IsLoadRefusedFor workers) }
+    {
+        let counting = Counting {
+            urls: plan.urls,
+            times: plan.times,
+            fails_statuses: plan.fails_statuses,
+        };
+        let Some(source) = UrlJobs::new(alloc, plan.urls, plan.times.rate) else {
+            return Err(LoadError::Run(DriverFault::Memory));
+        };
+        let mut addresses = plan.addresses;
+        addresses.truncate(progress.len());
+        let tools = tools_for(system, alloc, addresses, plan.hosts, counting, progress)?;
+        let alarms = alarms_of(alloc, &tools)?;
+        let collected = Collected::new(alloc, plan.hosts, tools.len())?;
+        Ok(LoadParts {
+            source,
+            tools,
+            alarms,
+            collected,
+        })
     }
 }
 
 impl Collected {
+    // Discards the passes of a run that did not begin, and returns the reason.
+    fn not_begun(
+        self,
+        refused: NotBegun<PolledDial<'_, HostRuntime>, CountedResults<'_>>,
+    ) -> LoadError
+        ensures { result ≡ LoadError.Run refused.entry.fault }
+    {
+        let NotBegun {
+            fault,
+            tools: _,
+            passes,
+        } = refused;
+        discard_all(passes);
+        self.discard();
+        LoadError::Run(fault)
+    }
+
     // Returns the result of a run that ended at that moment, unless a turn failed.
     fn ran<N: Names>(
         self,

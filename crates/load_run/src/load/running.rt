@@ -3,7 +3,7 @@
 ghost use Rattle.std.specs.Prelude.{◌≡◌, ◌⊎◌, IfOk};
 ghost use Rattle.load_run.specs.LoadRuns.{IsLoadOutcomeOf, lacks_jobs, IsUnknownHost};
 ghost use Rattle.load_run.specs.LoadRuns.{IsUnknownSite};
-ghost use Rattle.load_run.specs.LoadRuns.{ReportsRun, RunsMany, jobs_planned, polled_world};
+ghost use Rattle.load_run.specs.LoadRuns.{IsManyPlanOf, ReportsRun, jobs_planned, polled_world};
 ghost use Rattle.load_run.specs.LoadRuns.{per_second, positive};
 ghost use Rattle.load_run.specs.LoadSites.{AreSitesOf, AreAllBelow};
 ghost use Rattle.commands.specs.declared.load_plan.LoadPlan.{LoadPlan};
@@ -43,31 +43,17 @@ pub(crate) fn load_sites<R: Threads + Wait + RandomSource + AllocGlobal + Sync>(
         Err(SiteFault::Memory) => return Err(OUT_OF_MEMORY.into()),
         Err(SiteFault::Unknown(host)) => return unknown(alloc, host),
     };
-    let files = LoadFiles::create(system, alloc, plan)?;
-    load_at(rt, system, alloc, plan, &sites, files)
-}
-
-// Runs a load at these sites, and writes its files.
-fn load_at<R: Threads + Wait + RandomSource + AllocGlobal + Sync>(
-    rt: &R,
-    system: &HostRuntime,
-    alloc: Global,
-    plan: &LoadPlan,
-    sites: &LoadSites<'_>,
-    files: LoadFiles<'_>,
-) -> Result<LoadOutcome, LoadFailure>
-    requires sites { AreSitesOf plan.now.jobs.items plan.now.resolved.items 0
-        sites.now.sites.items }
-    requires all { AreAllBelow sites.now.count plan.now.jobs.items }
-    ensures { IfOk result (ReportsRun polled_world plan.now) }
-{
-    let LoadFiles { traced, pictured } = files;
-    let watch = LoadWatch::new(rt, system, alloc, plan, sites, traced);
-    let loaded = loaded_many(rt, system, alloc, plan, sites, &watch);
+    let many = many_plan(alloc, plan, &sites)?;
+    let LoadFiles { traced, pictured } = LoadFiles::create(system, alloc, plan)?;
+    let watch = LoadWatch::new(rt, system, alloc, plan, &sites, traced);
+    let ended = load_many(rt, system, alloc, many, &watch);
     watch.erase_progress();
-    let loaded = loaded?;
+    let loaded = match ended {
+        Ok(loaded) => loaded,
+        Err(error) => return Err(LoadFault::Load(error).into()),
+    };
     let trace = watch.end_trace(&loaded.logs);
-    let outcome = written(alloc, plan, sites, &loaded, trace, pictured)?;
+    let outcome = written(alloc, plan, &sites, &loaded, trace, pictured)?;
     if watch.is_interrupted() || lacks_jobs(plan, &loaded) {
         return Ok(LoadOutcome {
             status: Status::Interrupted.code(),
@@ -123,25 +109,22 @@ fn unknown(alloc: Global, host: &str) -> Result<LoadOutcome, LoadFailure>
     })
 }
 
-// Runs the requests on the load's threads.
-fn loaded_many<R: Threads + Wait + RandomSource + AllocGlobal + Sync>(
-    rt: &R,
-    system: &HostRuntime,
+// Makes the plan of a run at these sites.
+fn many_plan<'a>(
     alloc: Global,
-    plan: &LoadPlan,
+    plan: &'a LoadPlan,
     sites: &LoadSites<'_>,
-    watch: &LoadWatch<'_, R>,
-) -> Result<LoadedMany, LoadFault>
+) -> Result<ManyPlan<'a>, LoadFault>
     requires sites { AreSitesOf plan.now.jobs.items plan.now.resolved.items 0
         sites.now.sites.items }
     requires all { AreAllBelow sites.now.count plan.now.jobs.items }
-    ensures { IfOk result (RunsMany polled_world plan.now) }
+    ensures { IfOk result (IsManyPlanOf plan.now) }
 {
     let (options, numbers) = (plan.options, plan.numbers);
     let Ok(addresses) = sites.addresses(alloc, options.workers) else {
         return Err(OUT_OF_MEMORY);
     };
-    let many = ManyPlan {
+    Ok(ManyPlan {
         limits: options.limits(),
         hosts: sites.count(),
         addresses,
@@ -155,11 +138,7 @@ fn loaded_many<R: Threads + Wait + RandomSource + AllocGlobal + Sync>(
             timeout: numbers.timeout,
         },
         fails_statuses: plan.flags.fail,
-    };
-    match load_many(rt, system, alloc, many, watch) {
-        Ok(loaded) => Ok(loaded),
-        Err(error) => Err(LoadFault::Load(error)),
-    }
+    })
 }
 
 // Returns the number of jobs; None for a load with a duration.

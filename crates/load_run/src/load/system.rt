@@ -1,6 +1,7 @@
 //! Loads over the system's threads and sockets.
 
-ghost use Rattle.std.specs.Prelude.{◌⊎◌, IfOk};
+ghost use Rattle.std.specs.Prelude.{◌≡◌, ◌⊎◌, IfOk, length};
+ghost use Rattle.load_run.specs.LoadJobs.{AsksOwn};
 ghost use Rattle.load_run.specs.LoadRuns.{IsUnknownHost, ReportsLoad, ReportsRun, polled_world};
 
 use crate::load::failure::LoadFailure;
@@ -11,12 +12,12 @@ use crate::load::running::load_sites;
 use commands::LoadPlan;
 use loopback_server::Server;
 use std::alloc::{AllocGlobal, Global};
-use std::io::{Error, ErrorKind};
+use std::io::{self, Error, ErrorKind};
 use std::random::RandomSource;
 use std::sync::Wait;
 use std::sync::atomic::{AtomicBool, Ordering};
 use std::thread;
-use std::thread::{Builder, Threads, scope_env};
+use std::thread::{Builder, JoinHandle, Scope, Threads, scope_env};
 
 /// Runs a load over the system's threads and sockets, and returns its outcome. The requests go to
 /// the plan's URLs. Without URLs they go to a server that the load starts, on one port of 127.0.0.1
@@ -40,44 +41,18 @@ pub fn load_on_system<T: Threads + Wait + RandomSource + AllocGlobal + Sync>(
     if !plan.urls.is_empty() {
         return load_sites(threads, system, alloc, &plan);
     }
-    let server = match Server::listen(system, alloc, plan.options.sites) {
-        Ok(server) => server,
-        Err(error) => return Err(fault_of(&error, LoadFault::Listen).into()),
-    };
     let mut plan = plan;
-    let Ok(()) = add_own(alloc, &mut plan, server.ports()) else {
-        return Err(OUT_OF_MEMORY.into());
-    };
-    beside_server(threads, system, alloc, server, &plan)
-}
-
-// Runs a load, and its server on another thread.
-fn beside_server<T: Threads + Wait + RandomSource + AllocGlobal + Sync>(
-    threads: &T,
-    system: &HostRuntime,
-    alloc: Global,
-    server: Server,
-    plan: &LoadPlan,
-) -> Result<LoadOutcome, LoadFailure>
-    ensures { IfOk result (λ outcome.
-        IsUnknownHost plan.now outcome ⊎ ReportsRun polled_world plan.now outcome) }
-{
-    let ended = AtomicBool::new(false);
+    let server = own_server(system, alloc, &mut plan)?;
+    let (used, ended) = (&plan, AtomicBool::new(false));
     thread::scope(
         scope_env(),
         threads,
         |scope| -> Result<LoadOutcome, LoadFailure>
-            ensures { IfOk result (λ outcome. IsUnknownHost plan.entry.now outcome
-                ⊎ ReportsRun polled_world plan.entry.now outcome) }
+            ensures { IfOk result (λ outcome. IsUnknownHost used.entry.now outcome
+                ⊎ ReportsRun polled_world used.entry.now outcome) }
         {
-            let serving = match Builder::new().spawn_scoped(
-                scope,
-                || server.serve(threads, &ended),
-            ) {
-                Ok(serving) => serving,
-                Err(error) => return Err(fault_of(&error, NO_THREAD).into()),
-            };
-            let outcome = load_sites(threads, system, alloc, plan);
+            let serving = serve(scope, threads, server, &ended)?;
+            let outcome = load_sites(threads, system, alloc, used);
             ended.store(true, Ordering::SeqCst);
             match serving.join(threads) {
                 Ok(_requests) => outcome,
@@ -85,6 +60,38 @@ fn beside_server<T: Threads + Wait + RandomSource + AllocGlobal + Sync>(
             }
         },
     )
+}
+
+// Makes the server of a load without URLs, and adds its requests to the plan.
+fn own_server(
+    system: &HostRuntime,
+    alloc: Global,
+    plan: &mut LoadPlan,
+) -> Result<Server, LoadFailure>
+    ensures { IfOk result (λ server. (length server ≡ plan.old.options.sites)
+        × AsksOwn server plan.old plan.new) }
+{
+    let server = match Server::listen(system, alloc, plan.options.sites) {
+        Ok(server) => server,
+        Err(error) => return Err(fault_of(&error, LoadFault::Listen).into()),
+    };
+    let Ok(()) = add_own(alloc, plan, server.ports()) else {
+        return Err(OUT_OF_MEMORY.into());
+    };
+    Ok(server)
+}
+
+// Lets the server serve on another thread of the scope, until `ended` is true.
+fn serve<'s, E, T: Wait + Sync>(
+    scope: &Scope<'s, E>,
+    threads: &'s T,
+    server: Server,
+    ended: &'s AtomicBool,
+) -> Result<JoinHandle<io::Result<Vec<u64>>>, LoadFailure> {
+    match Builder::new().spawn_scoped(scope, || server.serve(threads, ended)) {
+        Ok(serving) => Ok(serving),
+        Err(error) => Err(fault_of(&error, NO_THREAD).into()),
+    }
 }
 
 // Returns `OUT_OF_MEMORY` if the system's error is an allocation failure, else `otherwise`.

@@ -1,5 +1,5 @@
 -- A load requests the plan's URLs, or a server that it starts.
-use Rattle.std.proofs.Common.{◌∙◌, ap, length, rules, List, ℕ}
+use Rattle.std.proofs.Common.{rules}
 use Rattle.std.proofs.lemmas.List.{nil_from_length}
 use Rattle.load_run.specs.LoadRuns.{polled_world}
 use Rattle.load_run.proofs.Outcomes.{of_own, of_urls}
@@ -12,6 +12,5 @@ returns-then-not-is_empty g c =
 pub returns : goal.returns
 returns g c =
     let urls = c.args.plan.urls.items in
-    let count = ap (λ (l : List ℕ). length l) c.ports.ensures ∙ c.in-Ok.ensures in
-    of_own polled_world c.args.plan c.add_own.new.plan c.ports.result.now c.beside_server.result
-    (nil_from_length urls (search (rules, c.is_empty.ensures, c.if-not-is_empty.false))) count c.in-Ok-add_own.ensures.asks c.beside_server.ensures
+    let none = nil_from_length urls (search (rules, c.is_empty.ensures, c.if-not-is_empty.false)) in
+    of_own polled_world c.args.plan c.own_server.new.plan c.in_ok-server.server c.scoped.result none c.in_ok-server.ensures.0 c.in_ok-server.ensures.1 c.scoped.ensures.1
