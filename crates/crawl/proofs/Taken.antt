@@ -2,7 +2,8 @@
 use Rattle.std.proofs.Common.{◌≡◌, List, [], ◌∷◌, length, ap, sym, ◌∙◌, arith, inl, inr}
 use Rattle.std.specs.Prelude.{None}
 use Rattle.run_loop.specs.Taking.{AllTaken, JobResult}
-use Rattle.crawl.specs.Written.{OutputShown, TakesResult, TakesShown}
+use Rattle.crawl.specs.Results.{TakesAll}
+use Rattle.crawl.specs.Written.{OutputShown, TakesResult, TakesShown, TookAll}
 use Rattle.crawl.specs.declared.in_flight.InFlight.{InFlight}
 
 -- no result changes the part, so all together leave it
@@ -49,3 +50,6 @@ module _ {R : Type 0} (shown : R → OutputShown) where
       → AllTaken TakesShown (shown old) (shown new) came
   shown_all [] old new same = ap shown same
   shown_all (result ∷ earlier) old new taken = (shown taken.0, shown_all earlier old taken.0 taken.1, taken.2)
+
+  pub took_shown : (Came : List JobResult → Type 0) (old new : R) → TakesAll Came (λ (before after : R) number done span. TakesShown (shown before) (shown after) number done span) old new → TookAll Came (shown old) (shown new)
+  took_shown Came old new takes = (takes.0, takes.1, shown_all takes.0 old new takes.2)

@@ -11,7 +11,7 @@ ghost use Rattle.crawl.specs.Crawling.{LeavesUrls, crawl_given, hosts_of, jobs_b
 ghost use Rattle.crawl.specs.Crawling.{none_begun};
 ghost use Rattle.crawl.specs.Faults.{IsStepFault, line_fault};
 ghost use Rattle.crawl.specs.Reading.{TakesBad, queue_shown};
-ghost use Rattle.crawl.specs.Written.{TookAll, output_shown};
+ghost use Rattle.crawl.specs.Written.{output_shown};
 ghost use Rattle.crawl.specs.declared.fault.CrawlFault.TheVariants as faults;
 ghost use Rattle.streams.specs.declared.stream_fault.StreamFault.TheVariants.{Read};
 
@@ -195,8 +195,14 @@ fn fetch_urls<N: Names, C: Crawler, R: Source, W: Sink>(
             Ok(Step::End) => return queue.end(),
             Err(fault) => return Err(fault),
         };
-        if let Err(fault) = fetch(&queue, jobs.as_slice(), names, crawler, input, output) {
-            return Err(fault);
+        let signals = CrawlSignals {
+            cannot_write: output.cannot_write,
+            names,
+            input,
+            wants_input: queue.wants_input(),
+        };
+        if let Err(fault) = crawler.crawl(jobs.as_slice(), queue.until(), output, &signals) {
+            return Err(CrawlFault::Network(fault));
         }
         if output.progress.fault.is_some() {
             return Ok(());
@@ -204,35 +210,6 @@ fn fetch_urls<N: Names, C: Crawler, R: Source, W: Sink>(
     }
     // 2^64 steps are never reached
     Err(OUT_OF_MEMORY)
-}
-
-// Begins jobs, and runs all transfers in flight until one ends or there is other work to do.
-fn fetch<N: Names, C: Crawler, R: Source, W: Sink>(
-    queue: &Queue,
-    jobs: &[Job],
-    names: &N,
-    crawler: &mut C,
-    input: &R,
-    output: &mut Output<'_, W>,
-) -> Result<(), CrawlFault>
-    requires can_go_on { C.can_go_on crawler.old }
-    ensures can_go_on { C.can_go_on crawler.new }
-    ensures takes { TookAll (C.crawled crawler.old crawler.new jobs.now) (output_shown
-        output.old.progress.now (W.sink output.old.output.now) output.old.output.ghost_name)
-        (output_shown output.new.progress.now (W.sink output.new.output.now)
-        output.new.output.ghost_name) }
-    ensures fault { IfErr result IsStepFault }
-{
-    let signals = CrawlSignals {
-        cannot_write: output.cannot_write,
-        names,
-        input,
-        wants_input: queue.wants_input(),
-    };
-    match crawler.crawl(jobs, queue.until(), output, &signals) {
-        Ok(()) => Ok(()),
-        Err(fault) => Err(CrawlFault::Network(fault)),
-    }
 }
 
 // Reads URLs ahead, writes the lines of bad ones, and takes those out of the queue whose transfers

@@ -23,11 +23,11 @@ const MOST_ANSWERS: usize = 1_024;
 pub(crate) struct Hosts {
     alloc: Global,
     table: PlaceTable,
-    /// The addresses that are given for hosts.
-    given: Vec<Resolved>,
+    /// Addresses given for hosts, which are not looked up.
+    overrides: Vec<Resolved>,
     names: KnownNames,
     /// By place, true if the system does not know its host.
-    unknown: Vec<bool>,
+    unresolved: Vec<bool>,
     /// By place, true if a transfer is in flight there, or about to begin.
     in_use: Vec<bool>,
     ghost sized: { length table.keys ≤ length in_use.items },
@@ -63,14 +63,14 @@ pub(crate) fn host_key(alloc: Global, target: &Target) -> Result<String, AllocEr
 impl Hosts {
     ghost use Rattle.crawl.specs.Placing.{GivesPlace};
 
-    /// Makes an empty table of hosts. `given` are the addresses of hosts that are not looked up.
-    pub(crate) fn new(alloc: Global, given: Vec<Resolved>) -> Hosts {
+    /// Makes an empty table. `overrides` are the addresses of hosts that are not looked up.
+    pub(crate) fn new(alloc: Global, overrides: Vec<Resolved>) -> Hosts {
         Hosts {
             alloc,
             table: PlaceTable::new(alloc, MOST_HOSTS),
-            given,
+            overrides,
             names: KnownNames::new(alloc),
-            unknown: Vec::new(alloc),
+            unresolved: Vec::new(alloc),
             in_use: Vec::new(alloc),
         }
     }
@@ -112,7 +112,7 @@ impl Hosts {
         ensures in_use { self.new.in_use.items ≡ self.old.in_use.items }
     {
         let (host, port) = (target.host.as_str(), target.port);
-        if let Some(address) = resolved_of(self.given.as_slice(), host, port) {
+        if let Some(address) = resolved_of(self.overrides.as_slice(), host, port) {
             return Ok(Some(vec![in self.alloc; address]?));
         }
         match host_addresses(self.alloc, host, port) {
@@ -187,9 +187,9 @@ impl Hosts {
         ensures table { self.new.table ≡ self.old.table }
         ensures in_use { self.new.in_use.items ≡ self.old.in_use.items }
     {
-        match self.unknown.get_mut(place as usize) {
+        match self.unresolved.get_mut(place as usize) {
             Some(former) => *former = is_unknown,
-            None => self.unknown.push(is_unknown)?,
+            None => self.unresolved.push(is_unknown)?,
         }
         Ok(())
     }
@@ -232,7 +232,10 @@ impl Hosts {
 
     /// True if the system does not know the host at that place.
     pub(crate) fn is_unknown(&self, place: u32) -> bool {
-        self.unknown.get(place as usize).copied().unwrap_or(false)
+        self.unresolved
+            .get(place as usize)
+            .copied()
+            .unwrap_or(false)
     }
 
     /// Records the answers of look-ups that have arrived.

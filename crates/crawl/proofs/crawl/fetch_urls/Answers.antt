@@ -7,9 +7,10 @@ use Rattle.crawl.specs.Reading.{queue_shown}
 use Rattle.crawl.specs.Written.{output_shown}
 use Rattle.crawl.specs.declared.crawl.Step.TheVariants.{Read, End}
 use Rattle.crawl.specs.declared.fault.CrawlFault.{CrawlFault}
+use Rattle.crawl.specs.declared.output.Output.{Output}
 use Rattle.commands.specs.declared.crawl_options.CrawlOptions.{CrawlOptions}
 use Rattle.crawl.proofs.Finished.{end_from, fault_is, fetched_here, fetches_begun, step_from, stopped_here}
-use Rattle.crawl.proofs.Taken.{name_all}
+use Rattle.crawl.proofs.Taken.{name_all, took_shown}
 use Rattle.crawl.proofs.crawl.fetch_urls.Goals as goal
 
 pub loop-preserved-in-Ok-Read : goal.loop-preserved-in-Ok-Read
@@ -49,53 +50,59 @@ returns-in-Err-clause-fetches g c = λ crawl first at. (
     let is = c.next_step.new.output in
     stopped_here g.C.Crawler.crawled crawl first f.jobs f.results (output_shown is.progress.now (g.W.Sink.sink is.output.now) is.output.ghost_name) _ f.ran (c.in-Err.ensures.steps crawl f.jobs f.results first f.at) c.in-Err.ensures.fault)
 
-pub returns-in-Err-fetch-clause-same : goal.returns-in-Err-fetch-clause-same
-returns-in-Err-fetch-clause-same g c = let takes = c.fetch.ensures.takes in name_all takes.0 _ _ takes.2 ∙ c.next_step.ensures.same ∙ c.loop.invariant.same
+pub returns-in-Err-crawl-clause-same : goal.returns-in-Err-crawl-clause-same
+returns-in-Err-crawl-clause-same g c =
+    let takes = took_shown (λ (o : Output g.row.W.Denot g.W.Sink). output_shown o.progress.now (g.W.Sink.sink o.output.now) o.output.ghost_name) (g.C.Crawler.crawled c.next_step.new.crawler c.crawl.new.self c.as_slice.result.now) c.next_step.new.output c.crawl.new.results c.crawl.ensures.takes in
+    name_all takes.0 _ _ takes.2 ∙ c.next_step.ensures.same ∙ c.loop.invariant.same
 
-pub returns-in-Err-fetch-clause-fetches : goal.returns-in-Err-fetch-clause-fetches
-returns-in-Err-fetch-clause-fetches g c = λ crawl first at. (
+pub returns-in-Err-crawl-clause-fetches : goal.returns-in-Err-crawl-clause-fetches
+returns-in-Err-crawl-clause-fetches g c = λ crawl first at. (
     let f = c.loop.invariant.at crawl first at in
     let was = c.next_step.new.output in
-    let is = c.fetch.new.output in
+    let is = c.crawl.new.results in
+    let takes = took_shown (λ (o : Output g.row.W.Denot g.W.Sink). output_shown o.progress.now (g.W.Sink.sink o.output.now) o.output.ghost_name) (g.C.Crawler.crawled c.next_step.new.crawler c.crawl.new.self c.as_slice.result.now) was is c.crawl.ensures.takes in
     let queue = queue_shown c.next_step.new.queue in
     let mid = output_shown was.progress.now (g.W.Sink.sink was.output.now) was.output.ghost_name in
     let now = output_shown is.progress.now (g.W.Sink.sink is.output.now) is.output.ghost_name in
-    let on = fetches_begun g.C.Crawler.crawled crawl first c.next_step.new.crawler c.fetch.new.crawler c.in-Ok-Fetch.field-0 c.as_slice.result.now f.jobs f.results (g.R.Source.source c.next_step.new.input).bytes queue mid now f.ran
-    (ap jobs_begun c.in-Ok-Fetch.field-0-is ∙ sym c.as_slice.ensures.value) (c.in-Ok-Fetch.ensures.steps crawl f.jobs f.results first f.at) c.fetch.ensures.takes in
-    stopped_here g.C.Crawler.crawled crawl first on.jobs on.results now _ on.ran ((g.R.Source.source c.next_step.new.input).bytes, queue, on.at) c.in-Err-fetch.ensures.fault)
+    let on = fetches_begun g.C.Crawler.crawled crawl first c.next_step.new.crawler c.crawl.new.self c.in-Ok-Fetch.field-0 c.as_slice.result.now f.jobs f.results (g.R.Source.source c.next_step.new.input).bytes queue mid now f.ran
+    (ap jobs_begun c.in-Ok-Fetch.field-0-is ∙ sym c.as_slice.ensures.value) (c.in-Ok-Fetch.ensures.steps crawl f.jobs f.results first f.at) takes in
+    stopped_here g.C.Crawler.crawled crawl first on.jobs on.results now _ on.ran ((g.R.Source.source c.next_step.new.input).bytes, queue, on.at) tt)
 
 pub returns-then-is_some-clause-same : goal.returns-then-is_some-clause-same
-returns-then-is_some-clause-same g c = let takes = c.fetch.ensures.takes in name_all takes.0 _ _ takes.2 ∙ c.next_step.ensures.same ∙ c.loop.invariant.same
+returns-then-is_some-clause-same g c =
+    let takes = took_shown (λ (o : Output g.row.W.Denot g.W.Sink). output_shown o.progress.now (g.W.Sink.sink o.output.now) o.output.ghost_name) (g.C.Crawler.crawled c.next_step.new.crawler c.crawl.new.self c.as_slice.result.now) c.next_step.new.output c.crawl.new.results c.crawl.ensures.takes in
+    name_all takes.0 _ _ takes.2 ∙ c.next_step.ensures.same ∙ c.loop.invariant.same
 
 pub returns-then-is_some-clause-fetches : goal.returns-then-is_some-clause-fetches
 returns-then-is_some-clause-fetches g c = λ crawl first at. (
     let f = c.loop.invariant.at crawl first at in
     let was = c.next_step.new.output in
-    let is = c.fetch.new.output in
+    let is = c.crawl.new.results in
+    let takes = took_shown (λ (o : Output g.row.W.Denot g.W.Sink). output_shown o.progress.now (g.W.Sink.sink o.output.now) o.output.ghost_name) (g.C.Crawler.crawled c.next_step.new.crawler c.crawl.new.self c.as_slice.result.now) was is c.crawl.ensures.takes in
     let queue = queue_shown c.next_step.new.queue in
     let mid = output_shown was.progress.now (g.W.Sink.sink was.output.now) was.output.ghost_name in
     let now = output_shown is.progress.now (g.W.Sink.sink is.output.now) is.output.ghost_name in
-    let on = fetches_begun g.C.Crawler.crawled crawl first c.next_step.new.crawler c.fetch.new.crawler c.in-Ok-Fetch.field-0 c.as_slice.result.now f.jobs f.results (g.R.Source.source c.next_step.new.input).bytes queue mid now f.ran
-    (ap jobs_begun c.in-Ok-Fetch.field-0-is ∙ sym c.as_slice.ensures.value) (c.in-Ok-Fetch.ensures.steps crawl f.jobs f.results first f.at) c.fetch.ensures.takes in
+    let on = fetches_begun g.C.Crawler.crawled crawl first c.next_step.new.crawler c.crawl.new.self c.in-Ok-Fetch.field-0 c.as_slice.result.now f.jobs f.results (g.R.Source.source c.next_step.new.input).bytes queue mid now f.ran
+    (ap jobs_begun c.in-Ok-Fetch.field-0-is ∙ sym c.as_slice.ensures.value) (c.in-Ok-Fetch.ensures.steps crawl f.jobs f.results first f.at) takes in
     fetched_here g.C.Crawler.crawled crawl first (g.R.Source.source c.next_step.new.input).bytes queue now _ on (λ none. fault_is is.progress.now.fault _ (sym c.is_some.ensures ∙ c.if-is_some.true) none) tt)
 
 pub loop-preserved : goal.loop-preserved
 loop-preserved g c =
     let so_far = c.loop.invariant in
     let was = c.next_step.new.output in
-    let is = c.fetch.new.output in
-    let takes = c.fetch.ensures.takes in
+    let is = c.crawl.new.results in
+    let takes = took_shown (λ (o : Output g.row.W.Denot g.W.Sink). output_shown o.progress.now (g.W.Sink.sink o.output.now) o.output.ghost_name) (g.C.Crawler.crawled c.next_step.new.crawler c.crawl.new.self c.as_slice.result.now) was is c.crawl.ensures.takes in
     record {
       counts = c.in-Ok-Fetch.ensures.counts_on;
-      can_go_on = c.fetch.ensures.can_go_on;
+      can_go_on = c.crawl.ensures.can_go_on;
       same = name_all takes.0 _ _ takes.2 ∙ c.next_step.ensures.same ∙ so_far.same;
       at = λ crawl first at. (
           let f = so_far.at crawl first at in
           let queue = queue_shown c.next_step.new.queue in
           let mid = output_shown was.progress.now (g.W.Sink.sink was.output.now) was.output.ghost_name in
           let now = output_shown is.progress.now (g.W.Sink.sink is.output.now) is.output.ghost_name in
-          fetches_begun g.C.Crawler.crawled crawl first c.next_step.new.crawler c.fetch.new.crawler c.in-Ok-Fetch.field-0 c.as_slice.result.now f.jobs f.results (g.R.Source.source c.next_step.new.input).bytes queue mid now f.ran
-          (ap jobs_begun c.in-Ok-Fetch.field-0-is ∙ sym c.as_slice.ensures.value) (c.in-Ok-Fetch.ensures.steps crawl f.jobs f.results first f.at) c.fetch.ensures.takes);
+          fetches_begun g.C.Crawler.crawled crawl first c.next_step.new.crawler c.crawl.new.self c.in-Ok-Fetch.field-0 c.as_slice.result.now f.jobs f.results (g.R.Source.source c.next_step.new.input).bytes queue mid now f.ran
+          (ap jobs_begun c.in-Ok-Fetch.field-0-is ∙ sym c.as_slice.ensures.value) (c.in-Ok-Fetch.ensures.steps crawl f.jobs f.results first f.at) takes);
     }
 
 pub returns-clause-fetches : goal.returns-clause-fetches
