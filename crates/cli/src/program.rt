@@ -1,8 +1,8 @@
 //! What the program does with its words, and the status with which it ends.
 
 ghost use Rattle.std.specs.Prelude.{◌≡◌, None};
-ghost use Rattle.cli.specs.Programs.{AnswersRequest, RunsProgram};
-ghost use Rattle.command_line.specs.CommandLine.{file_said, request_file, said, word_faults};
+ghost use Rattle.cli.specs.Programs.{RunsProgram};
+ghost use Rattle.command_line.specs.CommandLine.{file_said, said, word_faults};
 ghost use Rattle.cli.specs.Fetching.{RunsGet};
 ghost use Rattle.load_run.specs.LoadTexts.{RunsLoad, WritesText};
 ghost use Rattle.streams.specs.Streams.{CanCount};
@@ -59,42 +59,6 @@ pub fn run_program<
 {
     let request = memory.request(words);
     say(&mut system.errors, hint_for(&request, system.is_typed));
-    answer_request(alloc, request, load, system)
-}
-
-/// Returns the text that comes first on standard error: how to end a script, if one is typed on a
-/// terminal.
-fn hint_for(request: &Request, is_typed: bool) -> &'static str {
-    match request {
-        Request::Script(
-            ScriptWords {
-                input: Input::Standard,
-                ..
-            },
-        ) if is_typed => HOW_TO_END,
-        _ => "",
-    }
-}
-
-/// Answers a request, and returns the status: runs the script, fetches the URLs, carries out the
-/// load, judges the trace, prints help or the version, or reports why nothing is done.
-fn answer_request<
-    F: Files,
-    N: Network,
-    L: FnOnce(Global, LoadPlan) -> Result<LoadOutcome, LoadFailure> + Drop,
-    R: Source,
-    W: Sink,
-    E: Write,
->(alloc: Global, request: Request, load: L, system: &mut System<F, N, R, W, E>) -> u8
-    requires input { CanCount (R.source system.old.input) }
-    requires output { CanCount (W.sink system.old.output) }
-    requires load { L.IsAlwaysCallable load }
-    ensures answers { AnswersRequest (F.opens system.old.files system.new.files)
-        (RunsGet N.Crawler.crawled N.Crawler.finished (F.opens system.old.files system.new.files))
-        (RunsLoad (L.post load alloc)) request (R.source system.old.input)
-        (R.source system.new.input) (W.sink system.old.output) (W.sink system.new.output) result }
-    ensures unopened { request_file request ≡ None → system.new.files ≡ system.old.files }
-{
     match request {
         Request::Script(words) => answer_script(alloc, words, system),
         Request::Get(plan) => run_get(alloc, plan, system),
@@ -111,6 +75,20 @@ fn answer_request<
             say(&mut system.errors, "run: out of memory\n");
             Status::Failed.code()
         }
+    }
+}
+
+/// Returns the text that comes first on standard error: how to end a script, if one is typed on a
+/// terminal.
+fn hint_for(request: &Request, is_typed: bool) -> &'static str {
+    match request {
+        Request::Script(
+            ScriptWords {
+                input: Input::Standard,
+                ..
+            },
+        ) if is_typed => HOW_TO_END,
+        _ => "",
     }
 }
 
