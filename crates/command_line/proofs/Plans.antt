@@ -8,9 +8,6 @@ use Rattle.clap.specs.Words.{Text}
 use Rattle.commands.specs.Given.{url_text, url_texts}
 use Rattle.commands.specs.declared.url.CrawlUrl.{CrawlUrl}
 use Rattle.commands.specs.Urls.{IsBadUrl}
-use Rattle.command_line.specs.Refusals.{IsWhy}
-use Rattle.command_line.specs.declared.refusal.Refusal.{Refusal}
-use Rattle.command_line.specs.declared.refusal.Refusal.TheVariants.{Memory, Wrong}
 
 -- the first URL that is left
 pub first-url : (old new : List (String Global)) (url : String Global) → old ≡ new ++ url ∷ [] → map string_bytes (reverse old) ≡ string_bytes url ∷ map string_bytes (reverse new)
@@ -24,12 +21,11 @@ made-more old new url is = ap url_texts is ∙ map-append url_text old (url ∷ 
 pub made-first : (old new left : List Text) (url : Text) → new ≡ old ++ url ∷ [] → new ++ left ≡ old ++ url ∷ left
 made-first old new left url is = ap (λ l. l ++ left) is ∙ append_assoc old (url ∷ []) left
 
--- the URL after those that were made is refused
-pub refused-next : (made left : List Text) (url : Text) (refusal : Refusal) → IsWhy (IsBadUrl url) refusal → IsWhy (Any IsBadUrl (made ++ url ∷ left)) refusal
-refused-next made left url Memory why = tt
-refused-next made left url (Wrong text) why =
+-- the URL after those that were made is bad
+pub bad-next : (made left : List Text) (url : Text) → IsBadUrl url → Any IsBadUrl (made ++ url ∷ left)
+bad-next made left url bad =
     let all : length (made ++ url ∷ left) ≡ length made + length (url ∷ left) = length-append made (url ∷ left) in
-    (length made + 0, url, omega (arith, all), get_or-append-add made (url ∷ left) 0 url, why)
+    (length made + 0, url, omega (arith, all), get_or-append-add made (url ∷ left) 0 url, bad)
 
 -- no URL is left
 pub none-left : (urls : List (String Global)) → length urls ≡ 0 → map string_bytes (reverse urls) ≡ []

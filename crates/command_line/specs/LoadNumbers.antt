@@ -22,8 +22,8 @@ has_bad_jobs rows = is_outside (codes "jobs") Number 1 (most_jobs rows) rows
 
 -- the default number of idle connections: 65,535 with `--seconds`; otherwise four for each job, as CURLMOPT_MAXCONNECTS of
 -- libcurl has it for each transfer, and at most 65,535
-abbrev pub kept_for : List Row → ℕ → ℕ
-kept_for rows jobs = if is_given (codes "seconds") rows then 65535 else min (4 * jobs) 65535
+abbrev pub default_connects : List Row → ℕ → ℕ
+default_connects rows jobs = if is_given (codes "seconds") rows then 65535 else min (4 * jobs) 65535
 
 -- the six numbers that the words give. The defaults are 2 sites, 20 jobs, 4 workers, no limits, and the default number of
 -- idle connections
@@ -35,7 +35,7 @@ pub record AreLoadOptions (rows : List Row) (options : LoadOptions) : Type 0 whe
   pub workers_is : options.workers ≡ unwrap_or (number_said (codes "workers") Number 1 64 rows) 4
   pub host_limit_is : options.host_limit ≡ unwrap_or (number_said (codes "host-limit") Number 0 65535 rows) 0
   pub total_is : options.total ≡ unwrap_or (number_said (codes "total") Number 0 65535 rows) 0
-  pub connects_is : options.connects ≡ unwrap_or (number_said (codes "connects") Number 1 65535 rows) (kept_for rows options.jobs)
+  pub connects_is : options.connects ≡ unwrap_or (number_said (codes "connects") Number 1 65535 rows) (default_connects rows options.jobs)
 
 abbrev pub IsNumberRefused : List Row → Type 0
 IsNumberRefused rows = (has_bad_jobs rows ≡ true) ⊎ (has_bad load_options rows ≡ true)

@@ -5,12 +5,12 @@ ghost use Rattle.clap.specs.Words.{found_of, rows_of};
 ghost use Rattle.command_line.specs.GetPlans.{AreOptionsOf, IsGetRefused, IsPlanOf, flags_said};
 ghost use Rattle.command_line.specs.Refusals.{IsWhy};
 
-use crate::get_urls::{checked_urls, unchecked_urls};
+use crate::get_urls::crawl_urls;
 use crate::options::{
     FAIL, FILE, FRESH, GET_JSON, GET_TIMEOUT, HEAD, HOST_LIMIT, MAX_AGE, MAX_LIFE, PARALLEL,
     SKIP_BAD, TOTAL, URLS, get_options,
 };
-use crate::refusal::{Refusal, wrong};
+use crate::refusal::Refusal;
 use crate::resolve::given_hosts;
 use crate::values::{check_numbers, count, flag, number, text, texts};
 use clap::ArgMatches;
@@ -38,15 +38,11 @@ pub(crate) fn get_plan(alloc: Global, given: &ArgMatches<'_>) -> Result<CrawlPla
     let file = text(alloc, given, &FILE)?;
     let urls = texts(alloc, given, &URLS)?;
     if urls.is_empty() && file.is_none() {
-        return Err(wrong(String::from_str(alloc, NO_URL)));
+        return Err(Refusal::Wrong(String::from_str(alloc, NO_URL)?));
     }
     let resolved = given_hosts(alloc, given)?;
     let options = options_of(given);
-    let urls = if options.flags.skip_bad {
-        unchecked_urls(alloc, urls)?
-    } else {
-        checked_urls(alloc, urls)?
-    };
+    let urls = crawl_urls(alloc, urls, options.flags.skip_bad)?;
     Ok(CrawlPlan {
         options,
         urls,

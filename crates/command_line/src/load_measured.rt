@@ -1,8 +1,7 @@
 //! The numbers of a load other than its six, and its flags.
 
-ghost use Rattle.std.specs.Prelude.{◌≡◌};
 ghost use Rattle.clap.specs.Words.{found_of, rows_of};
-ghost use Rattle.command_line.specs.LoadNumbers.{AreFlagsOf, AreNumbersOf, default_timeout};
+ghost use Rattle.command_line.specs.LoadNumbers.{AreFlagsOf, AreNumbersOf};
 
 use crate::load_numbers::has_urls;
 use crate::options::{
@@ -22,16 +21,9 @@ pub(crate) fn numbers_of(given: &ArgMatches<'_>) -> LoadNumbers
         seconds: count(given, &SECONDS),
         warmup: count(given, &WARMUP).unwrap_or(0),
         rate: count(given, &RATE),
-        timeout: count(given, &LOAD_TIMEOUT).or(default_timeout(given)),
+        timeout: count(given, &LOAD_TIMEOUT).or(has_urls(given).then_some(30)),
         fail_above: count(given, &FAIL_ABOVE),
     }
-}
-
-// Returns the time limit of a request if none is given, in seconds.
-fn default_timeout(given: &ArgMatches<'_>) -> Option<u32>
-    ensures { result ≡ default_timeout (rows_of (found_of given.now)) }
-{
-    if has_urls(given) { Some(30) } else { None }
 }
 
 /// Returns the flags of the words.

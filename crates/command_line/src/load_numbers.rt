@@ -3,7 +3,7 @@
 ghost use Rattle.std.specs.Prelude.{◌≡◌, ◌<◌, ◌≤◌, IfErr, IfOk};
 ghost use Rattle.clap.specs.Words.{found_of, rows_of};
 ghost use Rattle.command_line.specs.LoadNumbers.{AreLoadOptions, IsNumberRefused};
-ghost use Rattle.command_line.specs.LoadNumbers.{has_urls, kept_for, most_jobs};
+ghost use Rattle.command_line.specs.LoadNumbers.{default_connects, has_urls, most_jobs};
 ghost use Rattle.command_line.specs.Refusals.{IsWhy};
 
 use crate::options;
@@ -52,7 +52,7 @@ pub fn load_options(alloc: Global, given: &ArgMatches<'_>) -> Result<LoadOptions
         workers: count(given, &WORKERS).unwrap_or(4),
         host_limit: count(given, &HOST_LIMIT).unwrap_or(0),
         total: count(given, &TOTAL).unwrap_or(0),
-        connects: count(given, &CONNECTS).unwrap_or(kept_for(given, jobs)),
+        connects: count(given, &CONNECTS).unwrap_or(default_connects(given, jobs)),
     })
 }
 
@@ -76,9 +76,9 @@ fn most_jobs(given: &ArgMatches<'_>) -> u64
 }
 
 // Returns the default number of idle connections for a load of `jobs` jobs.
-fn kept_for(given: &ArgMatches<'_>, jobs: u32) -> u32
+fn default_connects(given: &ArgMatches<'_>, jobs: u32) -> u32
     requires { 0 < jobs }
-    ensures kept { result ≡ kept_for (rows_of (found_of given.now)) jobs }
+    ensures connects { result ≡ default_connects (rows_of (found_of given.now)) jobs }
     ensures within { (1 ≤ result) × (result ≤ 65535) }
 {
     if is_used(given, &SECONDS) {

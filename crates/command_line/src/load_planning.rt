@@ -1,10 +1,9 @@
 //! Plans a load, from the words after `load`.
 
-ghost use Rattle.std.specs.Prelude.{◌≡◌, ◌&&◌, is_some, map, IfErr, IfOk};
-ghost use Rattle.std.specs.List.{list_all};
+ghost use Rattle.std.specs.Prelude.{◌≡◌, ◌&&◌, is_some, IfErr, IfOk};
 ghost use Rattle.clap.specs.Words.{found_of, rows_of};
 ghost use Rattle.command_line.specs.LoadPlans.{IsLoadPlanOf, IsLoadRefused, has_conflict};
-ghost use Rattle.command_line.specs.LoadPlans.{is_plain, leaves_plain};
+ghost use Rattle.command_line.specs.LoadPlans.{is_plain};
 ghost use Rattle.command_line.specs.OptionTable.{facts_of};
 ghost use Rattle.command_line.specs.Options.{is_used};
 ghost use Rattle.command_line.specs.Refusals.{IsWhy};
@@ -60,20 +59,20 @@ pub(crate) fn load_plan(alloc: Global, given: &ArgMatches<'_>) -> Result<LoadPla
 fn conflict_of(given: &ArgMatches<'_>) -> Option<&'static str>
     ensures { is_some result ≡ has_conflict (rows_of (found_of given.now)) }
 {
-    if are_used(given, &URL, &SITES) {
+    if are_both_used(given, &URL, &SITES) {
         return Some("the argument '--url <URL>' cannot be used with '--sites <NUMBER>'");
     }
-    if are_used(given, &URLS, &SITES) {
+    if are_both_used(given, &URLS, &SITES) {
         return Some("the argument '[URL]...' cannot be used with '--sites <NUMBER>'");
     }
-    if are_used(given, &SECONDS, &JOBS) {
+    if are_both_used(given, &SECONDS, &JOBS) {
         return Some("the argument '--seconds <SECONDS>' cannot be used with '--jobs <NUMBER>'");
     }
     None
 }
 
 // Returns true if both options are used.
-fn are_used(given: &ArgMatches<'_>, one: &OptionRow, other: &OptionRow) -> bool
+fn are_both_used(given: &ArgMatches<'_>, one: &OptionRow, other: &OptionRow) -> bool
     ensures { result ≡ (is_used (rows_of (found_of given.now)) (facts_of one.now)
         && is_used (rows_of (found_of given.now)) (facts_of other.now)) }
 {
@@ -84,14 +83,7 @@ fn are_used(given: &ArgMatches<'_>, one: &OptionRow, other: &OptionRow) -> bool
 fn is_plain(given: &ArgMatches<'_>) -> bool
     ensures { result ≡ is_plain (rows_of (found_of given.now)) }
 {
-    leave_plain(given, options::load_options())
-}
-
-// Returns true if each of these options is unused, or leaves a load plain.
-fn leave_plain(given: &ArgMatches<'_>, options: &[OptionRow]) -> bool
-    ensures { result ≡ list_all (leaves_plain (rows_of (found_of given.now)))
-        (map facts_of options.now) }
-{
+    let options = options::load_options();
     for option in options {
         if !option.is_plain && is_used(given, option) {
             return false;

@@ -10,7 +10,7 @@ ghost use Rattle.command_line.specs.Refusals.{IsWhy};
 use crate::options::{URL, URLS};
 use crate::refusal::{Refusal, wrong};
 use crate::url_target::checked_target;
-use crate::values::add_texts;
+use crate::values::{add_texts, texts};
 use clap::ArgMatches;
 use commands::{LoadFlags, job_of};
 use conn_key::Sites;
@@ -29,8 +29,7 @@ pub(crate) fn load_urls(alloc: Global, given: &ArgMatches<'_>) -> Result<Vec<Str
     ensures { IfOk result (λ urls.
         map string_bytes urls.items ≡ urls_said (rows_of (found_of given.now))) }
 {
-    let mut urls = Vec::new(alloc);
-    add_texts(&mut urls, given, &URL)?;
+    let mut urls = texts(alloc, given, &URL)?;
     add_texts(&mut urls, given, &URLS)?;
     Ok(urls)
 }

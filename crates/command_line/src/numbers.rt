@@ -1,19 +1,12 @@
 //! Numbers on the command line.
 
-ghost use Rattle.std.specs.Prelude.{◌≡◌, ◌^◌};
-ghost use Rattle.streams.specs.Words.{number};
+ghost use Rattle.std.specs.Prelude.{◌≡◌};
 ghost use Rattle.command_line.specs.Numbers.{decimals_in, percent_in, percent_with, seconds_in};
-ghost use Rattle.command_line.specs.Numbers.{seconds_with};
+
+use streams::number_of;
 
 /// Hundredths in 100 percent.
 const MOST_HUNDREDTHS: u64 = 10_000;
-
-/// Returns the number of one or more decimal digits, if it has 64 bits.
-pub(crate) fn number_of(text: &[u8]) -> Option<u64>
-    ensures { result ≡ number (2 ^ 64) text.now }
-{
-    streams::number_of(text)
-}
 
 /// Returns a duration in seconds: digits, and possibly a unit, which is `s`, `m` or `h`.
 pub(crate) fn seconds_of(text: &[u8]) -> Option<u64>
@@ -21,18 +14,11 @@ pub(crate) fn seconds_of(text: &[u8]) -> Option<u64>
 {
     let (&unit, digits) = text.split_last()?;
     match unit {
-        b'h' => seconds_with(3_600, digits),
-        b'm' => seconds_with(60, digits),
+        b'h' => number_of(digits)?.checked_mul(3_600),
+        b'm' => number_of(digits)?.checked_mul(60),
         b's' => number_of(digits),
         _ => number_of(text),
     }
-}
-
-// Returns the seconds of a number of units.
-fn seconds_with(unit: u64, digits: &[u8]) -> Option<u64>
-    ensures { result ≡ seconds_with unit digits.now }
-{
-    number_of(digits)?.checked_mul(unit)
 }
 
 /// Returns the hundredths of a percentage with at most two decimals, at most 10,000.

@@ -1,7 +1,7 @@
 //! The addresses of hosts: those that the words give, and those that the system knows.
 
 ghost use Rattle.std.specs.Prelude.{◌≡◌, ◌++◌, IfErr, IfOk, IfNone, IfSome, codes};
-ghost use Rattle.std.specs.Prelude.{ℕ, List, map, option_map, string_bytes, MatchOption};
+ghost use Rattle.std.specs.Prelude.{ℕ, List, option_map, MatchOption};
 ghost use Rattle.std.specs.List.{Any};
 ghost use Rattle.std.specs.declared.net.ip_addr.IpAddr.{IpAddr};
 ghost use Rattle.socket.specs.Hosts.{in_brackets};
@@ -13,14 +13,14 @@ ghost use Rattle.command_line.specs.Resolving.{AreResolved, IsAddressText, IsNoR
 ghost use Rattle.command_line.specs.Resolving.{Resolves, cut_at, host_said};
 ghost use Rattle.command_line.specs.Resolving.{is_colon, resolve_said, said_by};
 
-use crate::numbers::number_of;
 use crate::options::RESOLVE;
-use crate::refusal::{Refusal, wrong};
+use crate::refusal::Refusal;
 use crate::values::texts;
 use clap::ArgMatches;
 use commands::{Escaped, Resolved};
 use std::alloc::{AllocError, Global};
 use std::net::{IpAddr, Ipv6Addr, SocketAddr};
+use streams::number_of;
 
 /// Returns the addresses that the words give for hosts.
 ///
@@ -34,25 +34,16 @@ pub(crate) fn given_hosts(alloc: Global, given: &ArgMatches<'_>) -> Result<Vec<R
         (texts_said (codes "resolve") (rows_of (found_of given.now))))) }
 {
     let values = texts(alloc, given, &RESOLVE)?;
-    let hosts = resolved_hosts(alloc, values.as_slice())?;
-    Ok(hosts)
-}
-
-// Reads values of `--resolve`.
-fn resolved_hosts(alloc: Global, values: &[String]) -> Result<Vec<Resolved>, Refusal>
-    ensures hosts { IfOk result (λ hosts.
-        AreResolved (map string_bytes values.now) hosts.items) }
-    ensures refused { IfErr result (IsWhy (Any IsNoResolve (map string_bytes values.now))) }
-{
     let mut hosts = Vec::new(alloc);
-    for text in values {
-        let text = text.as_str();
-        let Some(host) = resolved_in(alloc, text)? else {
+    for value in values.as_slice() {
+        let text = value.as_str();
+        let Some(host) = parse_resolve(alloc, text)? else {
             let shown = Escaped(text);
-            return Err(wrong(format!(in alloc;
+            let message = format!(in alloc;
                 "invalid value '{shown}' for '--resolve <HOST:PORT:ADDRESS>': \
                 not HOST:PORT:ADDRESS"
-            )));
+            )?;
+            return Err(Refusal::Wrong(message));
         };
         let Ok(()) = hosts.push(host) else {
             return Err(Refusal::Memory);
@@ -61,23 +52,19 @@ fn resolved_hosts(alloc: Global, values: &[String]) -> Result<Vec<Resolved>, Ref
     Ok(hosts)
 }
 
-/// Reads a value of `--resolve`; `None` if it is not `HOST:PORT:ADDRESS`.
-///
-/// # Errors
-///
-/// There is no memory for it.
-fn resolved_in(alloc: Global, text: &str) -> Result<Option<Resolved>, AllocError>
+// Parses a value of `--resolve`; `None` if it is not `HOST:PORT:ADDRESS`.
+fn parse_resolve(alloc: Global, text: &str) -> Result<Option<Resolved>, AllocError>
     ensures { IfOk result (λ found. MatchOption found (IsNoResolve text.now) (Resolves text.now)) }
 {
-    let Some(said) = said_in(text) else {
+    let Some(parts) = resolve_parts(text) else {
         return Ok(None);
     };
-    let Some(ip) = ip_of(said.address.as_bytes()) else {
+    let Some(ip) = ip_of(parts.address.as_bytes()) else {
         return Ok(None);
     };
-    let mut host = String::from_str(alloc, said.name)?;
-    host.push_str(said.end)?;
-    let address = SocketAddr::new(ip, said.port);
+    let mut host = String::from_str(alloc, parts.name)?;
+    host.push_str(parts.end)?;
+    let address = SocketAddr::new(ip, parts.port);
     Ok(Some(Resolved { host, address }))
 }
 
@@ -93,12 +80,13 @@ struct ResolveText<'a> {
     address: &'a str,
 }
 
-// The parts of `HOST:PORT:ADDRESS`, whose address may be none; `None` if the text has another form.
-fn said_in(text: &str) -> Option<ResolveText<'_>>
+// Returns the parts of `HOST:PORT:ADDRESS`, whose address may be none; `None` if the text has
+// another form.
+fn resolve_parts(text: &str) -> Option<ResolveText<'_>>
     ensures { option_map said_by result ≡ resolve_said text.now }
 {
     let (name, end, rest) = host_of(text)?;
-    let (port, address) = at_colon(rest)?;
+    let (port, address) = split_at_colon(rest)?;
     let port = port_of(port)?;
     Some(ResolveText {
         name,
@@ -108,20 +96,20 @@ fn said_in(text: &str) -> Option<ResolveText<'_>>
     })
 }
 
-// The host before the first colon, or in brackets, whose last one stands apart; and the text after
-// its colon. The host is not empty.
+// Returns the host before the first colon, or in brackets, of which the last one is the second
+// text; and the text after its colon. The host is not empty.
 fn host_of(text: &str) -> Option<(&str, &str, &str)>
     ensures { option_map (λ it. (it.0.now ++ it.1.now, it.2.now)) result ≡ host_said text.now }
 {
     if text.starts_with('[') {
         let (name, rest) = text.split_once(']')?;
-        let (between, rest) = at_colon(rest)?;
+        let (between, rest) = split_at_colon(rest)?;
         if between.is_empty() {
             return Some((name, "]", rest));
         }
         return None;
     }
-    let (name, rest) = at_colon(text)?;
+    let (name, rest) = split_at_colon(text)?;
     if name.is_empty() {
         None
     } else {
@@ -129,14 +117,14 @@ fn host_of(text: &str) -> Option<(&str, &str, &str)>
     }
 }
 
-// What stands before the first colon, and what stands after it.
-fn at_colon(text: &str) -> Option<(&str, &str)>
+// Returns the text before the first colon, and the text after it.
+fn split_at_colon(text: &str) -> Option<(&str, &str)>
     ensures { option_map (λ it. (it.0.now, it.1.now)) result ≡ cut_at is_colon text.now }
 {
     text.split_once(':')
 }
 
-// The port that a text is.
+// Returns the port that a text is.
 fn port_of(text: &str) -> Option<u16>
     ensures { result ≡ whole_in 1 65535 text.now }
 {
@@ -148,7 +136,7 @@ fn port_of(text: &str) -> Option<u16>
     }
 }
 
-// The address that a text writes; an IPv6 address may be in brackets.
+// Returns the address that a text writes; an IPv6 address may be in brackets.
 fn ip_of(text: &[u8]) -> Option<IpAddr>
     ensures some { IfSome result (IsAddressText text.now) }
     ensures none { IfNone result ((ip : IpAddr) → IsAddressText text.now ip → ⊥) }
@@ -162,7 +150,7 @@ fn ip_of(text: &[u8]) -> Option<IpAddr>
     }
 }
 
-// What stands in brackets, if a text does.
+// Returns the text in brackets.
 fn inside_of(text: &[u8]) -> Option<&[u8]>
     ensures some { IfSome result (λ inside. text.now ≡ in_brackets inside.now) }
     ensures none { IfNone result ((inside : List ℕ) → text.now ≡ in_brackets inside → ⊥) }

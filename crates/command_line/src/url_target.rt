@@ -6,7 +6,7 @@ ghost use Rattle.commands.specs.Urls.{IsBadUrl};
 ghost use Rattle.command_line.specs.GetPlans.{IsGoodUrl};
 ghost use Rattle.command_line.specs.Refusals.{IsWhy};
 
-use crate::refusal::{Refusal, wrong};
+use crate::refusal::Refusal;
 use commands::{Escaped, UrlFault, has_unprintable, url_target};
 use conn_key::Target;
 use std::alloc::Global;
@@ -27,13 +27,15 @@ pub(crate) fn checked_target(alloc: Global, option: &str, url: &str) -> Result<T
         Err(UrlFault::Memory) => Err(Refusal::Memory),
         Err(UrlFault::NoTarget(error)) => {
             let hint = scheme_hint(url);
-            Err(wrong(format!(in alloc; "invalid value '{url}' for '{option}': {error}{hint}")))
+            Err(Refusal::Wrong(format!(in alloc;
+                "invalid value '{url}' for '{option}': {error}{hint}"
+            )?))
         }
         Ok(_) | Err(UrlFault::Unprintable) => {
             let shown = Escaped(url);
-            Err(wrong(format!(in alloc;
+            Err(Refusal::Wrong(format!(in alloc;
                 "invalid value '{shown}' for '{option}': a control character"
-            )))
+            )?))
         }
     }
 }

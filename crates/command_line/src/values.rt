@@ -10,12 +10,13 @@ ghost use Rattle.command_line.specs.Options.{flag_said, has_bad, is_bad, is_nume
 ghost use Rattle.command_line.specs.Options.{is_used, number_said, texts_said, value_in};
 ghost use Rattle.command_line.specs.Refusals.{IsWhy};
 
-use crate::numbers::{hundredths_of, number_of, seconds_of};
+use crate::numbers::{hundredths_of, seconds_of};
 use crate::options::{OptionRow, Takes};
-use crate::refusal::{Refusal, wrong};
+use crate::refusal::Refusal;
 use clap::ArgMatches;
 use commands::Escaped;
 use std::alloc::{AllocError, Global};
+use streams::number_of;
 
 /// Returns the text that is given for an option, or the first one.
 pub(crate) fn text_of<'a>(given: &ArgMatches<'a>, option: &OptionRow) -> Option<&'a str>
@@ -82,14 +83,6 @@ pub(crate) fn texts(
     Ok(copies)
 }
 
-/// Returns the number of texts that are given for an option.
-pub(crate) fn text_count(given: &ArgMatches<'_>, option: &OptionRow) -> usize {
-    match given.get_raw(option.name) {
-        Some(texts) => texts.len(),
-        None => 0,
-    }
-}
-
 /// Appends copies of the texts that are given for an option or operand.
 ///
 /// # Errors
@@ -103,14 +96,7 @@ pub(crate) fn add_texts(
     ensures { OnOk result (map string_bytes copies.new.items ≡ map string_bytes copies.old.items
         ++ texts_said option.now.name.now (rows_of (found_of given.now))) }
 {
-    add_copies(copies, given.get_raw(option.name).unwrap_or(&[]))
-}
-
-// Appends copies of texts.
-fn add_copies(copies: &mut Vec<String>, texts: &[&str]) -> Result<(), AllocError>
-    ensures { OnOk result (map string_bytes copies.new.items
-        ≡ map string_bytes copies.old.items ++ map (λ text. text.now) texts.now) }
-{
+    let texts = given.get_raw(option.name).unwrap_or(&[]);
     for text in texts {
         let copy = String::from_str(*copies.allocator(), text)?;
         copies.push(copy)?;
@@ -118,10 +104,18 @@ fn add_copies(copies: &mut Vec<String>, texts: &[&str]) -> Result<(), AllocError
     Ok(())
 }
 
+/// Returns the number of texts that are given for an option.
+pub(crate) fn text_count(given: &ArgMatches<'_>, option: &OptionRow) -> usize {
+    match given.get_raw(option.name) {
+        Some(texts) => texts.len(),
+        None => 0,
+    }
+}
+
 /// Returns the number that is given for an option; `None` if none is given, or if it is not in the
 /// option's range.
 pub(crate) fn number(given: &ArgMatches<'_>, option: &OptionRow) -> Option<u64>
-    ensures said { result ≡ number_said option.now.name.now option.now.takes option.now.least
+    ensures given { result ≡ number_said option.now.name.now option.now.takes option.now.least
         option.now.greatest (rows_of (found_of given.now)) }
     ensures within { IfSome result (IsWithin option.now.least option.now.greatest) }
 {
@@ -131,7 +125,7 @@ pub(crate) fn number(given: &ArgMatches<'_>, option: &OptionRow) -> Option<u64>
 /// Does the same for an option whose numbers have 32 bits.
 pub(crate) fn count(given: &ArgMatches<'_>, option: &OptionRow) -> Option<u32>
     requires { option.now.greatest < 2 ^ 32 }
-    ensures said { result ≡ number_said option.now.name.now option.now.takes option.now.least
+    ensures given { result ≡ number_said option.now.name.now option.now.takes option.now.least
         option.now.greatest (rows_of (found_of given.now)) }
     ensures within { IfSome result (IsWithin option.now.least option.now.greatest) }
 {
@@ -176,7 +170,7 @@ pub(crate) fn check_number(
 {
     match text_of(given, option) {
         Some(text) if is_numeric(option.takes) && number_in(option, text).is_none() => {
-            Err(out_of_range(alloc, option, text))
+            Err(Refusal::Wrong(range_message(alloc, option, text)?))
         }
         _ => Ok(()),
     }
@@ -194,7 +188,7 @@ fn is_numeric(takes: Takes) -> bool
 
 // Returns the number of a text in an option's range.
 fn number_in(option: &OptionRow, text: &str) -> Option<u64>
-    ensures said { result ≡ value_in option.now.takes option.now.least option.now.greatest
+    ensures value { result ≡ value_in option.now.takes option.now.least option.now.greatest
         text.now }
     ensures within { IfSome result (IsWithin option.now.least option.now.greatest) }
 {
@@ -211,8 +205,8 @@ fn number_in(option: &OptionRow, text: &str) -> Option<u64>
     }
 }
 
-// Returns the refusal of a text that is not in an option's range.
-fn out_of_range(alloc: Global, option: &OptionRow, text: &str) -> Refusal {
+// Returns the message for a text that is not in an option's range.
+fn range_message(alloc: Global, option: &OptionRow, text: &str) -> Result<String, AllocError> {
     let shown = Escaped(text);
     let OptionRow {
         name,
@@ -222,12 +216,12 @@ fn out_of_range(alloc: Global, option: &OptionRow, text: &str) -> Refusal {
         ..
     } = *option;
     if let Takes::Percent = option.takes {
-        return wrong(format!(in alloc;
+        return format!(in alloc;
             "invalid value '{shown}' for '--{name} <{value}>': \
             not a percentage from 0 to 100 with at most two decimals"
-        ));
+        );
     }
-    wrong(format!(in alloc;
+    format!(in alloc;
         "invalid value '{shown}' for '--{name} <{value}>': not a number from {least} to {greatest}"
-    ))
+    )
 }

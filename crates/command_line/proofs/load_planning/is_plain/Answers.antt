@@ -1,8 +1,8 @@
-use Rattle.std.proofs.Common.{◌∙◌, ap}
+use Rattle.std.proofs.Common.{ap, sym}
 use Rattle.std.specs.List.{list_all}
 use Rattle.clap.specs.Words.{found_of, rows_of}
 use Rattle.command_line.specs.LoadPlans.{leaves_plain}
 use Rattle.command_line.proofs.load_planning.is_plain.Goals as goal
 
-pub returns : goal.returns
-returns c = c.leave_plain.ensures ∙ ap (list_all (leaves_plain (rows_of (found_of c.args.given.now)))) c.load_options.ensures
+pub loop-option-init : goal.loop-option-init
+loop-option-init c = ap (list_all (leaves_plain (rows_of (found_of c.args.given.now)))) (sym c.load_options-options.ensures)

@@ -1,6 +1,6 @@
 use Rattle.std.proofs.Common.{rules, ◌++◌}
 use Rattle.command_line.proofs.Resolves.{parts_said}
-use Rattle.command_line.proofs.resolve.said_in.Goals as goal
+use Rattle.command_line.proofs.resolve.resolve_parts.Goals as goal
 
 pub returns : goal.returns
 returns c =

@@ -1,9 +1,0 @@
-use Rattle.std.proofs.Common.{◌≡◌, drop, map}
-use Rattle.std.specs.List.{list_all}
-use Rattle.clap.specs.Words.{found_of, rows_of}
-use Rattle.command_line.specs.LoadPlans.{leaves_plain}
-use Rattle.command_line.specs.OptionTable.{facts_of}
-use Rattle.command_line.proofs.load_planning.leave_plain.Given as goal
-
-abbrev pub invariant-loop-option : goal.invariant-loop-option
-invariant-loop-option l = list_all (leaves_plain (rows_of (found_of l.given))) (map facts_of l.options) ≡ list_all (leaves_plain (rows_of (found_of l.given))) (map facts_of (drop l.option-index l.options))
