@@ -1,6 +1,5 @@
-//! What the program's commands are given, and how they end: plans of crawls and loads, URLs and
-//! their targets, addresses given for hosts, statuses, messages for files, and how the program was
-//! built.
+//! Input and exit statuses of the program's commands: plans of crawls and loads, URLs and their
+//! targets, address overrides, messages for files, and the kind of the program's build.
 #![tactic(auto)]
 
 mod build;

@@ -25,8 +25,8 @@ pub struct Want {
 }
 
 impl Want {
-    /// The want of a transfer with the defaults of libcurl: lane 0, a connection that was idle for
-    /// at most [`DEFAULT_MAX_AGE`] seconds, no limit to its age, and reuse allowed.
+    /// Returns a transfer's want with libcurl's defaults: lane 0, an idle time of at most
+    /// [`DEFAULT_MAX_AGE`] seconds, no maximum lifetime, and reuse allowed.
     pub fn of(transfer: u64) -> Want
         ensures { result ≡ want_of transfer }
     {
