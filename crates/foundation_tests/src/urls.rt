@@ -1,4 +1,5 @@
-//! Tests of `conn_key`: targets and sites, and what finding a site costs.
+//! Tests of `conn_key`: targets, sites and places of hosts, and what finding a site costs.
 
+mod places;
 mod sites;
 mod targets;

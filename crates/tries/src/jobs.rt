@@ -2,7 +2,7 @@
 
 use conn_key::Target;
 use conn_log::Want;
-use exchange::{Done, Fault, Job};
+use exchange::{Done, Job};
 use persistence::Method;
 use std::alloc::{AllocError, Global};
 use std::io::Write;
@@ -54,22 +54,8 @@ pub(crate) fn print_line(rt: &HostRuntime, name: &str, done: &Done) -> Option<()
             println!(rt; "{status} {length} {reused}{retried} {name}").ok()
         }
         Done::Bad(fault) => {
-            let fault = name_of(*fault);
+            let fault = fault.name();
             println!(rt; "{fault} {name}").ok()
         }
-    }
-}
-
-// Returns the name of a fault.
-fn name_of(fault: Fault) -> &'static str {
-    match fault {
-        Fault::Memory => "Memory",
-        Fault::Dial => "Dial",
-        Fault::Read => "Read",
-        Fault::Write => "Write",
-        Fault::BadResponse => "BadResponse",
-        Fault::Cut => "Cut",
-        Fault::Refused(_) => "Refused",
-        Fault::Cancelled => "Cancelled",
     }
 }
