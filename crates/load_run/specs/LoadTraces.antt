@@ -1,11 +1,11 @@
 -- What is written as the trace of a load.
 use Rattle.std.specs.Prelude.{◌≡◌, ◌⊎◌, ◌+◌, ◌<◌, ◌++◌, ℕ, List, [], ◌∷◌, length, reverse, slice_index_or, slice_set, Result, Ok, Err}
 use Rattle.clap.specs.Words.{Text}
-use Rattle.script_text.specs.declared.command.Limits.{Limits}
 use Rattle.streams.specs.declared.stream_fault.StreamFault.{StreamFault}
 use Rattle.streams.specs.declared.stream_fault.StreamFault.TheVariants as kinds
 use Rattle.streams.specs.Streams.{PutFails, Puts, Stream}
 use Rattle.conn_log.specs.declared.entry.Entry.{Entry}
+use Rattle.trace_text.specs.HostLines.{limits_lines}
 use Rattle.trace_text.specs.HostUses.{AreUsesOf}
 use Rattle.trace_text.specs.declared.host_trace.HostTrace.{HostTrace}
 use Rattle.commands.specs.declared.load_limits.LoadOptions.{LoadOptions}
@@ -17,9 +17,9 @@ use Rattle.load_run.specs.declared.load.fault.LoadFault.TheVariants.{Load, Write
 use Rattle.driver.specs.declared.fault.DriverFault.TheVariants.{Memory}
 use Rattle.load_run.specs.declared.error.LoadError.TheVariants.{Run}
 
--- the limits of the trace are those of the load
-abbrev pub limits_said : LoadOptions → Limits
-limits_said options = record { host = options.host_limit; total = options.total; kept = options.connects }
+-- the first lines of the trace: its limits are those of the load
+abbrev pub first_lines : LoadOptions → Text
+first_lines options = limits_lines options.host_limit options.total options.connects
 
 -- the fault of a load whose trace was not put: memory ran out, or a write failed
 abbrev pub fault_of : StreamFault → LoadFault

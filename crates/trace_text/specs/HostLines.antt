@@ -8,7 +8,6 @@ use Rattle.conn_log.specs.declared.entry.Want.{Want}
 use Rattle.conn_log.specs.Connections.{holder}
 use Rattle.conn_log.specs.Waiting.{waits}
 use Rattle.script_text.specs.Printing.{entry_line, returned_by}
-use Rattle.script_text.specs.declared.command.Limits.{Limits}
 use Rattle.trace_text.specs.Asking.{back_line, get_line}
 
 -- the line by which a transfer asked for its start: none, if it waited
@@ -32,9 +31,9 @@ abbrev pub part_lines : ℕ → List Entry → List Entry → List ℕ
 part_lines host before [] = []
 part_lines host before (e ∷ part) = lines_of host before e ++ part_lines host (e ∷ before) part
 
--- the order, and the limits
-abbrev pub limits_lines : Limits → List ℕ
-limits_lines limits = codes "order host\nlimits " ++ (decimal limits.host ++ (codes " " ++ (decimal limits.total ++ (codes " " ++ (decimal limits.kept ++ codes "\n")))))
+-- the order, and the limits: of open connections of one host and of all, and of idle ones
+abbrev pub limits_lines : ℕ → ℕ → ℕ → List ℕ
+limits_lines host total kept = codes "order host\nlimits " ++ (decimal host ++ (codes " " ++ (decimal total ++ (codes " " ++ (decimal kept ++ codes "\n")))))
 
 -- a site: the host and the port of its URL
 abbrev pub site_line : List ℕ → ℕ → List ℕ

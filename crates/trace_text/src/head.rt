@@ -3,20 +3,20 @@
 ghost use Rattle.std.specs.Prelude.{◌≡◌, ◌++◌, OnOk, string_bytes};
 ghost use Rattle.trace_text.specs.HostLines.{limits_lines, site_line};
 
-use script_text::Limits;
 use std::alloc::AllocError;
 use std::fmt::Write;
 
 /// Adds the first lines of a trace: its lines are in order within each host alone (`order host`),
-/// and these are its limits.
+/// and these are its limits: the most open connections of one host and of all hosts, 0 for no
+/// limit, and the most that are kept idle.
 ///
 /// # Errors
 ///
 /// There is no memory for them.
-pub fn add_limits(text: &mut String, limits: Limits) -> Result<(), AllocError>
-    ensures { OnOk result (string_bytes text.new ≡ string_bytes text.old ++ limits_lines limits) }
+pub fn add_limits(text: &mut String, host: u32, total: u32, kept: u32) -> Result<(), AllocError>
+    ensures { OnOk result (string_bytes text.new ≡ string_bytes text.old
+        ++ limits_lines host total kept) }
 {
-    let Limits { host, total, kept } = limits;
     write!(text, "order host\nlimits {host} {total} {kept}\n")
 }
 

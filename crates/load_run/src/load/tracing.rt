@@ -1,13 +1,13 @@
 //! Writes the trace of a load, each time that its logs are cut.
 
-ghost use Rattle.std.specs.Prelude.{◌≡◌, ◌++◌, List, [], length, reverse, string_bytes};
+ghost use Rattle.std.specs.Prelude.{◌≡◌, ◌++◌, List, length, reverse, string_bytes};
 ghost use Rattle.std.specs.Prelude.{IfOk, OnOk};
 ghost use Rattle.conn_log.specs.declared.entry.Entry.{Entry};
 ghost use Rattle.streams.specs.Streams.{CanCount, SameFailures};
 ghost use Rattle.load_run.specs.LoadSites.{site_lines};
 ghost use Rattle.load_run.specs.LoadTraces.{AddsPart, AreNewHosts, GoesOn, IfOpen, WritesTrace};
-ghost use Rattle.load_run.specs.LoadTraces.{fault_of, limits_said};
-ghost use Rattle.trace_text.specs.HostLines.{limits_lines, part_lines};
+ghost use Rattle.load_run.specs.LoadTraces.{fault_of, first_lines};
+ghost use Rattle.trace_text.specs.HostLines.{part_lines};
 ghost use Rattle.trace_text.specs.HostUses.{AreUsesOf};
 
 use crate::load::failure::LoadFailure;
@@ -16,7 +16,6 @@ use crate::load::files::{OutputFile, unwritten};
 use crate::load::sites::LoadSites;
 use commands::LoadOptions;
 use conn_log::Entry;
-use script_text::Limits;
 use std::alloc::{AllocError, Global};
 use std::fs::File;
 use streams::{FailureCounted, Sink, StreamFault};
@@ -46,7 +45,7 @@ impl<'a> LoadTrace<'a> {
         sites: &LoadSites<'_>,
         output: OutputFile<'a>,
     ) -> LoadTrace<'a> {
-        let Ok(hosts) = host_traces(alloc, sites.count()) else {
+        let Ok(hosts) = host_traces(alloc, sites.count) else {
             return LoadTrace::Failed(OUT_OF_MEMORY.into());
         };
         let OutputFile { name, mut file } = output;
@@ -147,7 +146,7 @@ fn write_head<W: Sink>(
     output: &mut W,
 ) -> Result<(), LoadFault>
     requires output { CanCount (W.sink output.old) }
-    ensures { WritesTrace (limits_lines (limits_said options)
+    ensures { WritesTrace (first_lines options
         ++ site_lines sites.now.sites.items) (W.sink output.old) (W.sink output.new) result }
 {
     let mut text = String::new(alloc);
@@ -164,14 +163,15 @@ fn add_head(
     sites: &LoadSites<'_>,
 ) -> Result<(), AllocError>
     ensures { OnOk result (string_bytes text.new ≡ string_bytes text.old
-        ++ (limits_lines (limits_said options) ++ site_lines sites.now.sites.items)) }
+        ++ (first_lines options ++ site_lines sites.now.sites.items)) }
 {
-    let limits = Limits {
-        host: options.host_limit,
-        total: options.total,
-        kept: options.connects,
-    };
-    add_limits(text, limits)?;
+    let LoadOptions {
+        host_limit,
+        total,
+        connects,
+        ..
+    } = options;
+    add_limits(text, host_limit, total, connects)?;
     sites.add_lines(text)
 }
 
