@@ -17,7 +17,7 @@ use exchange::{Clock, Dial, Done, JobRunner, JobStop, Wire};
 use std::sync::Wait;
 
 /// Carries out the job of that number: how it ended.
-pub(crate) fn carry_out<W: Wire, C: Cache<W>, D: Dial<W>, K: Clock, G: Gate, R: Wait>(
+pub(crate) fn carry_job<W: Wire, C: Cache<W>, D: Dial<W>, K: Clock, G: Gate, R: Wait>(
     rt: &R,
     shared: &RunContext<'_, K, G>,
     runner: &mut JobRunner,

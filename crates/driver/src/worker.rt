@@ -9,7 +9,7 @@ ghost use Rattle.run_loop.specs.Running.{numbers_of};
 ghost use Rattle.driver.specs.Results.{RunsInTurn};
 ghost use Rattle.driver.specs.Workers.{AreResults, Goes, left_with};
 
-use crate::carrying::carry_out;
+use crate::carrying::carry_job;
 use crate::context::RunContext;
 use crate::gate::Gate;
 use crate::quit::Quit;
@@ -211,7 +211,7 @@ impl<'d, W: Wire, D: Dial<W>> Worker<'d, W, D> {
         let Some(number) = shared.claim.draw(&mut self.seat) else {
             return Ok(false);
         };
-        let done = carry_out(rt, shared, &mut self.runner, cache, self.dial, number)?;
+        let done = carry_job(rt, shared, &mut self.runner, cache, self.dial, number)?;
         self.results.push_reserved((number, done));
         Ok(true)
     }

@@ -10,7 +10,7 @@ use Rattle.driver.specs.declared.quit.Quit.{Quit}
 use Rattle.driver.specs.Quits.{MayStop, QuitsOn, answer_at}
 use Rattle.driver.specs.Results.{IsResultAt, IsResultOf, CarriesOutAt}
 use Rattle.driver.proofs.Carried.{answered_is, answered_carried, answered_turns, answered_at, at_number}
-use Rattle.driver.proofs.carrying.carry_out.Goals as goal
+use Rattle.driver.proofs.carrying.carry_job.Goals as goal
 
 pub returns-clause-ok : goal.returns-clause-ok
 returns-clause-ok g c =
