@@ -80,15 +80,15 @@ fn parsed(alloc: Global, words: &[&str]) -> Request
     }
 }
 
-// Returns the request of the words after a command.
+// Returns the request of all words.
 fn request_in(alloc: Global, matches: &ArgMatches<'_>) -> Request
     ensures { AnswersSaid (said_in (subcommand_rows_of matches.now)) result }
 {
     match matches.subcommand() {
-        Some((name, given)) => match planned(alloc, name, given) {
+        Some((name, given)) => match request_for(alloc, name, given) {
             Ok(request) => request,
             Err(Refusal::Memory) => Request::NoMemory,
-            Err(Refusal::Wrong(text)) => refused(alloc, name, text.as_str()),
+            Err(Refusal::Wrong(text)) => usage_refusal(alloc, name, text.as_str()),
         },
         None => Request::Script(ScriptWords {
             is_traced: false,
@@ -98,8 +98,8 @@ fn request_in(alloc: Global, matches: &ArgMatches<'_>) -> Request
     }
 }
 
-// Makes the plan of the words after the command of that name.
-fn planned(alloc: Global, name: &str, given: &ArgMatches<'_>) -> Result<Request, Refusal>
+// Returns the request of the words after the command of that name.
+fn request_for(alloc: Global, name: &str, given: &ArgMatches<'_>) -> Result<Request, Refusal>
     ensures planned { IfOk result (Plans (said_as name.now (rows_of (found_of given.now)))) }
     ensures refused { IfErr result (IsWhy
         (IsSaidRefused (said_as name.now (rows_of (found_of given.now))))) }
@@ -117,7 +117,7 @@ fn planned(alloc: Global, name: &str, given: &ArgMatches<'_>) -> Result<Request,
 }
 
 // Returns the refusal of the words after the command of that name, with its usage.
-fn refused(alloc: Global, name: &str, text: &str) -> Request
+fn usage_refusal(alloc: Global, name: &str, text: &str) -> Request
     ensures { IsRefusal result }
 {
     let error = if name == "load" {
