@@ -1,4 +1,5 @@
--- The options and operands of the commands.
+-- The options and operands of the commands. The four lists are made by `tools/options` of the rows in
+-- src/options.rt.
 use Rattle.std.specs.Prelude.{ℕ, Bool, true, false, List, [], ◌∷◌, Option, None, Some, codes}
 use Rattle.clap.specs.Words.{Text}
 use Rattle.command_line.specs.declared.options.OptionRow.{OptionRow}
@@ -33,9 +34,6 @@ plain facts = record facts { is_plain = true }
 abbrev pub short : ℕ → OptionFacts → OptionFacts
 short letter facts = record facts { short = Some letter }
 
-abbrev pub limit : Text → OptionFacts
-limit name = plain (within 0 65535 (option takes.Number name))
-
 abbrev pub get_options : List OptionFacts
 get_options =
     flag (codes "head")
@@ -44,8 +42,8 @@ get_options =
     ∷ option takes.Text (codes "file")
     -- P
     ∷ short 80 (within 1 256 (option takes.Number (codes "parallel")))
-    ∷ limit (codes "host-limit")
-    ∷ limit (codes "total")
+    ∷ plain (within 0 65535 (option takes.Number (codes "host-limit")))
+    ∷ plain (within 0 65535 (option takes.Number (codes "total")))
     ∷ within 0 18446744073709551615 (option takes.Seconds (codes "max-life"))
     ∷ option takes.Texts (codes "resolve")
     ∷ flag (codes "fresh")
@@ -62,8 +60,8 @@ load_options =
     ∷ short 110 (plain (within 1 4294967295 (option takes.Number (codes "jobs"))))
     -- t
     ∷ short 116 (plain (within 1 64 (option takes.Number (codes "workers"))))
-    ∷ limit (codes "host-limit")
-    ∷ limit (codes "total")
+    ∷ plain (within 0 65535 (option takes.Number (codes "host-limit")))
+    ∷ plain (within 0 65535 (option takes.Number (codes "total")))
     ∷ plain (within 1 65535 (option takes.Number (codes "connects")))
     ∷ plain (option takes.Text (codes "trace"))
     ∷ option takes.Text (codes "picture")
@@ -88,7 +86,16 @@ load_options =
     ∷ []
 
 abbrev pub script_options : List OptionFacts
-script_options = flag (codes "trace") ∷ option takes.Text (codes "picture") ∷ option takes.Operand (codes "FILE") ∷ []
+script_options =
+    flag (codes "trace")
+    ∷ option takes.Text (codes "picture")
+    ∷ option takes.Operand (codes "FILE")
+    ∷ []
 
 abbrev pub audit_options : List OptionFacts
-audit_options = flag (codes "all") ∷ flag (codes "json") ∷ flag (codes "state") ∷ option takes.Operand (codes "FILE") ∷ []
+audit_options =
+    flag (codes "all")
+    ∷ flag (codes "json")
+    ∷ flag (codes "state")
+    ∷ option takes.Operand (codes "FILE")
+    ∷ []
