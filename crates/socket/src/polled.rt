@@ -243,12 +243,8 @@ impl<'n, N: Net> PolledDial<'n, N> {
 }
 
 impl<'n, N: Net> Dial<PolledWire> for PolledDial<'n, N> {
-    ghost use Rattle.std.specs.Prelude.{◌≡◌, Contains};
-    ghost use Rattle.exchange.specs.Dialling.{IfUp, DialsFor};
-    ghost use Rattle.socket.specs.Dials.{dial_shown};
-    ghost use Rattle.socket.specs.Pending.{IsPending, IfNotYet};
-    ghost use Rattle.socket.specs.Hosts.{addresses_at};
-    ghost use Rattle.socket.specs.Sockets.{IsUntouched};
+    ghost use Rattle.std.specs.Prelude.{◌≡◌};
+    ghost use Rattle.socket.specs.Dials.{DialsSocket, dial_shown};
 
     ghost shown = { λ dial. dial_shown dial.connector.counts dial.connector.pending
         dial.source.id };
@@ -257,16 +253,9 @@ impl<'n, N: Net> Dial<PolledWire> for PolledDial<'n, N> {
         × (new.connector.addresses ≡ old.connector.addresses) };
 
     fn dial(&mut self, lease: &Lease<PolledWire>) -> Dialled<PolledWire>
-        ensures up { IfUp result (λ wire.
-            IsUntouched wire.connection lease.now.site lease.now.start.want.transfer) }
-        ensures to { IfUp result (λ wire. Contains (addresses_at
-            self.old.connector.addresses.hosts.items lease.now.site) wire.connection.address) }
-        ensures dials { DialsFor result lease.now.start.want.transfer
-            (dial_shown self.old.connector.counts self.old.connector.pending self.old.source.id)
-            (dial_shown self.new.connector.counts self.new.connector.pending self.new.source.id) }
-        ensures waits { IfNotYet result
-            (IsPending self.new.connector.pending lease.now.start.want.transfer) }
-        ensures addresses { self.new.connector.addresses ≡ self.old.connector.addresses }
+        ensures { DialsSocket (λ wire. wire.connection) result lease.now.site
+            lease.now.start.want.transfer self.old.connector self.new.connector self.old.source.id
+            self.new.source.id }
     {
         match self.connector.connect(lease.site(), lease.transfer()) {
             Dialled::Up(socket) => {
