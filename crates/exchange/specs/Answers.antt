@@ -32,9 +32,9 @@ pub record IsUnused (p : Prepared) : Type 0 where
 abbrev pub job_text : Job → List ℕ
 job_text job = request_text job.method (string_bytes job.target.path) (string_bytes job.target.host) job.target.port job.want.forbid_reuse
 
--- a job as another transfer
-abbrev pub as_transfer : ℕ → Job → Job
-as_transfer number job = record job { want = record job.want { transfer = number } }
+-- a job as another transfer, at another site
+abbrev pub moved_job : ℕ → ℕ → Job → Job
+moved_job site transfer job = record job { site = site; want = record job.want { transfer = transfer } }
 
 -- prepared for that job: with its text
 pub record IsPrepared (job : Job) (p : Prepared) : Type 0 where

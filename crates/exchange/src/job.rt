@@ -2,7 +2,7 @@
 
 ghost use Rattle.std.specs.Prelude.{◌≡◌, ◌<◌, [], length, IfOk, IfErr, OnOk, string_bytes};
 ghost use Rattle.exchange.specs.Request.{method_word, close_line};
-ghost use Rattle.exchange.specs.Answers.{IsPrepared, as_transfer, job_text, wanted};
+ghost use Rattle.exchange.specs.Answers.{IsPrepared, job_text, moved_job, wanted};
 
 use conn_key::Target;
 use conn_log::Want;
@@ -63,10 +63,10 @@ impl Prepared {
         ensures { IfOk result (IsPrepared job.now) }
     {
         let text = job.request_text(alloc)?;
-        Prepared::of_text(alloc, job, job.want.transfer, text)
+        Prepared::of_text(alloc, job, job.site, job.want.transfer, text)
     }
 
-    /// Takes all memory for the job as that transfer, whose request has this text.
+    /// Takes all memory for the job at that site and as that transfer, whose request has this text.
     ///
     /// Requires: `text` is the text of the job's request.
     ///
@@ -76,32 +76,34 @@ impl Prepared {
     pub fn new_as(
         alloc: Global,
         job: &Job,
+        site: u32,
         transfer: u64,
         text: &str,
     ) -> Result<Prepared, AllocError>
         requires text { text.now ≡ job_text job.now }
-        ensures { IfOk result (IsPrepared (as_transfer transfer job.now)) }
+        ensures { IfOk result (IsPrepared (moved_job site transfer job.now)) }
     {
         let text = String::from_str(alloc, text)?;
-        Prepared::of_text(alloc, job, transfer, text)
+        Prepared::of_text(alloc, job, site, transfer, text)
     }
 
     // Takes all memory but that of the text.
     fn of_text(
         alloc: Global,
         job: &Job,
+        site: u32,
         transfer: u64,
         text: String,
     ) -> Result<Prepared, AllocError>
         requires text { string_bytes text ≡ job_text job.now }
-        ensures { IfOk result (IsPrepared (as_transfer transfer job.now)) }
+        ensures { IfOk result (IsPrepared (moved_job site transfer job.now)) }
     {
         let Ok(reader) = ResponseReader::new(alloc, job.method, job.want.forbid_reuse) else {
             return Err(AllocError);
         };
         let buffer = vec![in alloc; 0; READ_BYTES]?;
         Ok(Prepared {
-            site: job.site,
+            site,
             want: Want {
                 transfer,
                 ..job.want
@@ -133,12 +135,12 @@ impl Prepared {
         if let Err(error) = write_request(&mut parts.text, job) {
             return Err((parts, error));
         }
-        parts.set_job(job, job.want.transfer);
+        parts.set_job(job, job.site, job.want.transfer);
         Ok(parts)
     }
 
-    /// Prepares another job in the same memory, as that transfer. `text` is copied only if it differs
-    /// from the text that is there.
+    /// Prepares another job in the same memory, at that site and as that transfer. `text` is copied
+    /// only if it differs from the text that is there.
     ///
     /// # Errors
     ///
@@ -150,12 +152,13 @@ impl Prepared {
     pub fn again_as(
         self,
         job: &Job,
+        site: u32,
         transfer: u64,
         text: &str,
     ) -> Result<Prepared, (Prepared, AllocError)>
         requires buffer { 0 < length self.buffer.items }
         requires text { text.now ≡ job_text job.now }
-        ensures prepared { IfOk result (IsPrepared (as_transfer transfer job.now)) }
+        ensures prepared { IfOk result (IsPrepared (moved_job site transfer job.now)) }
         ensures buffer { IfErr result (λ refused. 0 < length refused.0.buffer.items) }
     {
         let mut parts = self;
@@ -165,18 +168,18 @@ impl Prepared {
                 return Err((parts, error));
             }
         }
-        parts.set_job(job, transfer);
+        parts.set_job(job, site, transfer);
         Ok(parts)
     }
 
-    // Prepares all but the text for that job, as that transfer.
-    fn set_job(&mut self, job: &Job, transfer: u64)
+    // Prepares all but the text for that job, at that site and as that transfer.
+    fn set_job(&mut self, job: &Job, site: u32, transfer: u64)
         requires room { 0 < length self.old.buffer.items }
         requires text { string_bytes self.old.text ≡ job_text job.now }
-        ensures { IsPrepared (as_transfer transfer job.now) self.new }
+        ensures { IsPrepared (moved_job site transfer job.now) self.new }
     {
         self.reader.reset(job.method, job.want.forbid_reuse);
-        self.site = job.site;
+        self.site = site;
         self.want = Want {
             transfer,
             ..job.want
