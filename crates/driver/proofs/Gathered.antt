@@ -87,7 +87,7 @@ none_left claim [] left none is = refl
 none_left claim (work ∷ works) [] none is = absurd is
 none_left claim (work ∷ works) (worker ∷ rest) none is = absurd (omega (arith, none))
 
-module _ {W F : Type 0} (world : World W) (may_stop : ℕ → Type 0) (names : CacheNames) (job_at : ℕ → Job) (took : F → F → ℕ → Done → Span → Type 0) where
+module _ {W F : Type 0} (world : World W) (may_stop : ℕ → Type 0) (names : CacheNames) (job_at : ℕ → ℕ → Job) (took : F → F → ℕ → Done → Span → Type 0) where
   -- each number that was drawn has a result, as often
   told_as_drawn : (works : List (LoopWork F)) → All (IsLoopWork world may_stop names job_at took) works → (job : ℕ) → times job (numbers_of (flat_map told_of works)) ≡ times job (flat_map drawn_of works)
   told_as_drawn [] worked job = refl

@@ -47,7 +47,7 @@ moved_one all rest gone x is =
     let back : reverse (gone ++ x ∷ []) ≡ x ∷ reverse gone = reverse-append gone (x ∷ []) in
     ap (λ l. rest ++ l) back ∙ sym (append_assoc rest (x ∷ []) (reverse gone)) ∙ is
 
-module _ {W F : Type 0} (world : World W) (may_stop : ℕ → Type 0) (names : CacheNames) (job_at : ℕ → Job) (took : F → F → ℕ → Done → Span → Type 0) (claim : Jobs) where
+module _ {W F : Type 0} (world : World W) (may_stop : ℕ → Type 0) (names : CacheNames) (job_at : ℕ → ℕ → Job) (took : F → F → ℕ → Done → Span → Type 0) (claim : Jobs) where
   -- what each worker did, in the order of the workers
   abbrev pub EachLoops : List (LoopShown W F) → List (LoopShown W F) → Type 0
   EachLoops old new = (place : ℕ) (other : LoopShown W F) → place < length old → LoopsFrom world may_stop names job_at took claim (get_or old place other) (get_or new place other)

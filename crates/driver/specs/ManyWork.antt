@@ -52,16 +52,17 @@ drawn_of work = work.drawn
 abbrev pub end_of : {F : Type 0} → LoopWork F → RunEnd
 end_of work = work.end
 
--- with a new pass of the cache the worker carried out the jobs that it drew, any number at once, and did nothing else at its
--- desk; each has its result, which was taken once
-pub record IsLoopWork {W F : Type 0} (world : World W) (may_stop : ℕ → Type 0) (names : CacheNames) (job_at : ℕ → Job) (took : F → F → ℕ → Done → Span → Type 0) (work : LoopWork F) : Type 0 where
+-- with a new pass of the cache the worker carried out the jobs that it drew, as they are for the worker of its number, any
+-- number at once, and did nothing else at its desk; each has its result, which was taken once
+pub record IsLoopWork {W F : Type 0} (world : World W) (may_stop : ℕ → Type 0) (names : CacheNames) (job_at : ℕ → ℕ → Job) (took : F → F → ℕ → Done → Span → Type 0) (work : LoopWork F) : Type 0 where
+  pub worker : ℕ
   pub before : DeskShown W
   pub after : DeskShown W
   pub new_pass : IsNewPass before.pass
   pub pass_is : work.pass ≡ after.pass
   pub of_cache : IsPassOf names work.pass
   pub taken : AllTaken took work.begun work.ended work.told
-  pub running : IsRunning (DidAtDesk names) world (may_stop_at work.end may_stop) job_at before after work.drawn [] (told_of work)
+  pub running : IsRunning (DidAtDesk names) world (may_stop_at work.end may_stop) (job_at worker) before after work.drawn [] (told_of work)
   pub stopped : IfStopped work.end ((number : ℕ) → may_stop number)
   pub turns : TurnsAt work.end work.failed work.failed_now
 
@@ -84,7 +85,7 @@ HavePasses {D} {F} names finished = All (λ (own : Finished D F). IsPassOf names
 -- Each worker carried out the jobs that it drew, with a pass of its own. All workers together drew the first jobs, as many
 -- as the report says, each of which has one result. The run ended as the worker that ended worst; if it is complete, all
 -- jobs were drawn.
-pub record IsManyRun {W F : Type 0} (world : World W) (may_stop : ℕ → Type 0) (names : CacheNames) (job_at : ℕ → Job) (took : F → F → ℕ → Done → Span → Type 0) (jobs : ℕ) (begun : List (F × ℕ)) (back : List (F × ℕ × Accounts)) (end : RunEnd) (drawn : ℕ) : Type 0 where
+pub record IsManyRun {W F : Type 0} (world : World W) (may_stop : ℕ → Type 0) (names : CacheNames) (job_at : ℕ → ℕ → Job) (took : F → F → ℕ → Done → Span → Type 0) (jobs : ℕ) (begun : List (F × ℕ)) (back : List (F × ℕ × Accounts)) (end : RunEnd) (drawn : ℕ) : Type 0 where
   pub all_work : List (LoopWork F)
   pub worked : All (IsLoopWork world may_stop names job_at took) all_work
   pub begun_is : map begun_of all_work ≡ begun
@@ -155,14 +156,14 @@ pub record LeavesAs {F : Type 0} (claim : Jobs) (work : LoopWork F) (left : Left
   pub past : IfComplete left.end (0 < left.seat.past)
 
 -- so a worker did that was handed this
-pub record Loops {W F : Type 0} (world : World W) (may_stop : ℕ → Type 0) (names : CacheNames) (job_at : ℕ → Job) (took : F → F → ℕ → Done → Span → Type 0) (claim : Jobs) (begun : F × ℕ) (left : LeftShown F) : Type 0 where
+pub record Loops {W F : Type 0} (world : World W) (may_stop : ℕ → Type 0) (names : CacheNames) (job_at : ℕ → ℕ → Job) (took : F → F → ℕ → Done → Span → Type 0) (claim : Jobs) (begun : F × ℕ) (left : LeftShown F) : Type 0 where
   pub work : LoopWork F
   pub begun_is : begun_of work ≡ begun
   pub worked : IsLoopWork world may_stop names job_at took work
   pub leaves : LeavesAs claim work left
 
 -- whatever it was handed, so it did
-pub record LoopsFrom {W F : Type 0} (world : World W) (may_stop : ℕ → Type 0) (names : CacheNames) (job_at : ℕ → Job) (took : F → F → ℕ → Done → Span → Type 0) (claim : Jobs) (old new : LoopShown W F) : Type 0 where
+pub record LoopsFrom {W F : Type 0} (world : World W) (may_stop : ℕ → Type 0) (names : CacheNames) (job_at : ℕ → ℕ → Job) (took : F → F → ℕ → Done → Span → Type 0) (claim : Jobs) (old new : LoopShown W F) : Type 0 where
   pub left : LeftShown F
   pub is : new ≡ record { hired = None; left = Some left }
   pub loops : (begun : F × ℕ) → BeginsAs begun old → Loops world may_stop names job_at took claim begun left
@@ -178,7 +179,7 @@ AllLeft claim (work ∷ others) (worker ∷ rest) = HasLeft claim work worker ×
 AllLeft claim _ _ = ⊥
 
 -- all workers have left, which began with this
-pub record HaveLooped {W F : Type 0} (world : World W) (may_stop : ℕ → Type 0) (names : CacheNames) (job_at : ℕ → Job) (took : F → F → ℕ → Done → Span → Type 0) (claim : Jobs) (begun : List (F × ℕ)) (left : List (LoopShown W F)) : Type 0 where
+pub record HaveLooped {W F : Type 0} (world : World W) (may_stop : ℕ → Type 0) (names : CacheNames) (job_at : ℕ → ℕ → Job) (took : F → F → ℕ → Done → Span → Type 0) (claim : Jobs) (begun : List (F × ℕ)) (left : List (LoopShown W F)) : Type 0 where
   pub all_work : List (LoopWork F)
   pub worked : All (IsLoopWork world may_stop names job_at took) all_work
   pub begun_is : map begun_of all_work ≡ begun

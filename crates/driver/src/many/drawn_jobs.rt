@@ -13,6 +13,8 @@ use run_loop::{Draw, JobCounter, JobSeat, Jobs};
 pub(crate) struct DrawnJobs<'a, S: JobSource> {
     claim: &'a JobCounter,
     source: &'a S,
+    /// The worker's number.
+    worker: usize,
     seat: JobSeat,
     held: Option<u64>,
     /// Whether a number past the jobs was drawn.
@@ -21,17 +23,19 @@ pub(crate) struct DrawnJobs<'a, S: JobSource> {
 }
 
 impl<'a, S: JobSource> DrawnJobs<'a, S> {
-    /// With that seat, which has drawn nothing.
-    pub(crate) fn new(claim: &'a JobCounter, source: &'a S, seat: JobSeat) -> Self
+    /// Makes the jobs of the worker of that number, whose seat has drawn nothing.
+    pub(crate) fn new(claim: &'a JobCounter, source: &'a S, worker: usize, seat: JobSeat) -> Self
         requires at { seat.claim ≡ claim.now }
         requires not_past { seat.past ≡ 0 }
         ensures source { result.source.now ≡ source.now }
+        ensures worker { result.worker ≡ worker }
         ensures seat { result.seat ≡ seat }
         ensures none { result.held ≡ None }
     {
         DrawnJobs {
             claim,
             source,
+            worker,
             seat,
             held: None,
             is_over: false,
@@ -52,6 +56,7 @@ impl<'a, S: JobSource> DrawnJobs<'a, S> {
             ≡ given_out self.old.held self.old.seat.drawn }
         ensures over { IfNone result (0 < self.new.seat.past) }
         ensures source { self.new.source.now ≡ self.old.source.now }
+        ensures worker { self.new.worker ≡ self.old.worker }
         ensures fixed { fixed_of self.new.seat ≡ fixed_of self.old.seat }
     {
         if self.held.is_some() {
@@ -71,7 +76,7 @@ impl<'a, S: JobSource> Jobs for DrawnJobs<'a, S> {
     ghost use Rattle.run_loop.specs.Draws.{Jobs as Claimed};
     ghost use Rattle.driver.specs.ManyJobs.{given_out, fixed_of};
 
-    ghost job_at = { λ jobs number. S.job_at jobs.source.now number };
+    ghost job_at = { λ jobs number. S.job_at jobs.source.now jobs.worker number };
 
     ghost drawn = { λ jobs. given_out jobs.held jobs.seat.drawn };
 
@@ -100,6 +105,6 @@ impl<'a, S: JobSource> Jobs for DrawnJobs<'a, S> {
     }
 
     fn prepare(&self, number: u64, spare: Option<Prepared>) -> Result<Prepared, Option<Prepared>> {
-        self.source.prepare(number, spare)
+        self.source.prepare(self.worker, number, spare)
     }
 }

@@ -28,13 +28,18 @@ impl JobSource for ListedJobs<'_> {
     ghost use Rattle.driver.specs.Results.{job_in};
 
     // past the list it is the first one, which is not prepared
-    ghost job_at = { λ listed number. job_in listed.jobs.now listed.first.now number };
+    ghost job_at = { λ listed worker number. job_in listed.jobs.now listed.first.now number };
 
     fn due(&self, _number: u64) -> u64 {
         0
     }
 
-    fn prepare(&self, number: u64, spare: Option<Prepared>) -> Result<Prepared, Option<Prepared>> {
+    fn prepare(
+        &self,
+        _worker: usize,
+        number: u64,
+        spare: Option<Prepared>,
+    ) -> Result<Prepared, Option<Prepared>> {
         let Some(job) = self.jobs.get(number as usize) else {
             return Err(spare);
         };

@@ -221,7 +221,7 @@ fn loop_at_once<
         rt,
         workers,
         threads,
-        &|number, worker: &mut LoopWorker<W, D, F>|
+        &|place, worker: &mut LoopWorker<W, D, F>|
             requires { IsHiredLoop N.names common.now.claim.now worker.now }
             ensures { LoopsFrom (world_of W.untouched W.happened (T.tells
                 common.entry.now.timer.now)) (T.may_stop common.entry.now.timer.now) N.names
@@ -234,19 +234,20 @@ fn loop_at_once<
                 cache,
                 common,
                 alarms,
-                alarm_place(number, threads),
+                worker_number(place, threads),
                 worker,
             )
         },
     );
 }
 
-// The place of a worker's alarm: the first worker was hired with the last tools.
-fn alarm_place(number: usize, workers: usize) -> usize {
-    workers.saturating_sub(number).saturating_sub(1)
+// The number of the worker at that place, which is the place of its tools and of its alarm: the
+// first worker was hired with the last tools.
+fn worker_number(place: usize, workers: usize) -> usize {
+    workers.saturating_sub(place).saturating_sub(1)
 }
 
-// Lets a worker work, at a desk of its own. Its alarm has that place.
+// Lets the worker of that number work, at a desk of its own.
 fn work_in_loop<
     W: Wire,
     N: Names,
@@ -261,7 +262,7 @@ fn work_in_loop<
     cache: &SharedCache<W, N>,
     common: &Common<'_, S, T>,
     alarms: &[A],
-    alarm: usize,
+    number: usize,
     worker: &mut LoopWorker<W, D, F>,
 )
     requires hired { IsHiredLoop N.names common.now.claim.now worker.old }
@@ -278,7 +279,7 @@ fn work_in_loop<
         pass,
     } = worker.begin();
     let mut desk = Desk::new(cache, rt, pass);
-    let mut jobs = DrawnJobs::new(common.claim, common.source, seat);
+    let mut jobs = DrawnJobs::new(common.claim, common.source, number, seat);
     let timer = RunTimer {
         timer: common.timer,
         faults: &common.faults,
@@ -286,7 +287,7 @@ fn work_in_loop<
         waiters: &common.waiters,
         states: &common.states,
         alarms,
-        own: alarm,
+        own: number,
         woken: AtomicU64::new(0),
     };
     let end = places.run(rt, &mut desk, &mut dial, &mut jobs, &mut results, &timer);

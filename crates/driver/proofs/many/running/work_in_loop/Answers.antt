@@ -30,7 +30,7 @@ returns g c =
     let did = λ (old new : DeskShown g.row.W.Denot) (call : CacheCall g.row.W.Denot). DidAtDesk {S = g.row.W.Denot} names old new call in
     let jobs = c.new-jobs.result in
     let run = c.run-end in
-    let job_of = g.S.JobSource.job_at jobs.source.now in
+    let job_of = g.S.JobSource.job_at jobs.source.now jobs.worker in
     let source : jobs.source.now ≡ c.args.common.now.source.now = search rules in
     let drew = run.new.jobs in
     let begins : given_out jobs.held jobs.seat.drawn ≡ [] = search (rules, new) in
@@ -56,13 +56,14 @@ returns g c =
       };
       begun_is = refl;
       worked = record {
+        worker = jobs.worker;
         before = desk;
         after = run.new.cache;
         new_pass = search (rules, new);
         pass_is = search rules;
         of_cache = search rules;
         taken = is.taken;
-        running = subst (λ s. IsRunning did world (may_stop_at run.result may_stop) (g.S.JobSource.job_at s) desk run.new.cache drew.seat.drawn [] (ends_of is.told)) source
+        running = subst (λ s. IsRunning did world (may_stop_at run.result may_stop) (g.S.JobSource.job_at s jobs.worker) desk run.new.cache drew.seat.drawn [] (ends_of is.told)) source
             (subst (λ (l : List ℕ). IsRunning did world (may_stop_at run.result may_stop) job_of desk run.new.cache l [] (ends_of is.told)) drawn is.running);
         stopped = run.ensures.stopped;
         turns = run.ensures.turns;
