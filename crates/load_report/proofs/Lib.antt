@@ -6,3 +6,5 @@ pub mod Lines
 mod Holes
 -- the lines of hosts, one after the other
 mod AccountLines
+-- the sums of sites, one after another
+mod SiteSums

@@ -1,5 +1,5 @@
 -- The text of a report: how the connections of a run were used, and how its transfers ended.
-use Rattle.std.specs.Prelude.{ℕ, ◌+◌, ◌-◌, ◌^◌, min, Bool, true, false, List, [], ◌∷◌, ◌++◌, length, replicate, codes, count_by, sum_by}
+use Rattle.std.specs.Prelude.{ℕ, zero, suc, take, drop, ◌+◌, ◌-◌, ◌^◌, ◌==◌, if◌then◌else◌, min, Bool, true, false, List, [], ◌∷◌, ◌++◌, length, replicate, codes, count_by, sum_by}
 use Rattle.std.specs.Fmt.{decimal}
 use Rattle.std.specs.List.{flat_map}
 use Rattle.load_report.specs.declared.account_sums.JobSums.{JobSums}
@@ -45,6 +45,15 @@ totals hosts = record {
   waited = shown_sum (sum_by (λ (host : HostCount). host.waited) hosts);
   alive = shown_sum (sum_by (λ (host : HostCount). host.alive) hosts);
 }
+
+-- the sums of each site, if each has `each` consecutive hosts
+unfoldable pub sums_by_site : ℕ → ℕ → List HostCount → List HostCount
+sums_by_site zero each hosts = []
+sums_by_site (suc sites) each hosts = totals (take each hosts) ∷ sums_by_site sites each (drop each hosts)
+
+-- what happened at each site: at its host, or at its hosts in total
+abbrev pub site_totals : ℕ → ℕ → List HostCount → List HostCount
+site_totals sites each hosts = if each == 1 then hosts else sums_by_site sites each hosts
 
 -- the line of all hosts: how many there are, and what happened at all of them
 abbrev pub total_line : List HostCount → List ℕ

@@ -1,11 +1,12 @@
 //! Sums and counts of the report.
 
-ghost use Rattle.std.specs.Prelude.{◌≡◌, count_by, sum_by};
-ghost use Rattle.load_report.specs.Accounts.{shown_sum, sums_of, totals};
+ghost use Rattle.std.specs.Prelude.{◌≡◌, count_by, sum_by, IfOk};
+ghost use Rattle.load_report.specs.Accounts.{shown_sum, site_totals, sums_of, totals};
 ghost use Rattle.load_report.specs.Accounts.{body_len, is_bad, is_reused, is_retried};
 
 use exchange::Done;
 use shared_cache::HostCount;
+use std::alloc::{AllocError, Global};
 
 /// The numbers of the line `jobs` of a report.
 #[derive(Clone, Copy, Debug, PartialEq, Eq)]
@@ -56,6 +57,34 @@ pub fn totals(hosts: &[HostCount]) -> HostCount
         total.alive = total.alive.saturating_add(host.alive);
     }
     total
+}
+
+/// Returns the counts of each site: those of its host, or the sums of its `each` hosts, which are
+/// consecutive.
+///
+/// # Errors
+///
+/// There is no memory for them.
+pub fn site_totals(
+    alloc: Global,
+    hosts: &[HostCount],
+    sites: u32,
+    each: u32,
+) -> Result<Vec<HostCount>, AllocError>
+    ensures { IfOk result (λ sums. sums.items ≡ site_totals sites each hosts.now) }
+{
+    let mut sums = Vec::new(alloc);
+    if each == 1 {
+        sums.extend_from_slice(hosts)?;
+        return Ok(sums);
+    }
+    let mut left = hosts;
+    for _ in 0..sites {
+        let (own, others) = left.split_at(left.len().min(each as usize));
+        sums.push(totals(own))?;
+        left = others;
+    }
+    Ok(sums)
 }
 
 // Returns the total length of the bodies of whole responses, in bytes.

@@ -25,7 +25,7 @@ mod worked;
 
 pub use account::{report, report_of, report_with};
 pub use account_counts::count_part;
-pub use account_sums::{JobSums, totals};
+pub use account_sums::{JobSums, site_totals, totals};
 pub use conn_log::Counts;
 pub use failing::fails_above;
 pub use json::json_text;
