@@ -29,7 +29,7 @@ module _ {D : Type 0} (back : Finished D CountedResults → CountedResults × �
   passes_back [] = refl
   passes_back (own ∷ others) = ap₂ (λ (x : Accounts) (l : List Accounts). x ∷ l) (back_is own).1 (passes_back others)
 
-module _ {W D : Type 0} (world : World W) (may_stop is_reading : ℕ → Type 0) (names : CacheNames) (job_at : ℕ → Job) (jobs : ℕ) (begin : Tools D CountedResults → CountedResults × ℕ) (back : Finished D CountedResults → CountedResults × ℕ × Accounts)
+module _ {W D : Type 0} (world : World W) (may_stop is_reading : ℕ → Type 0) (names : CacheNames) (job_at : ℕ → ℕ → Job) (jobs : ℕ) (begin : Tools D CountedResults → CountedResults × ℕ) (back : Finished D CountedResults → CountedResults × ℕ × Accounts)
     (tools : List (Tools D CountedResults)) (workers : List (Finished D CountedResults)) (end : RunEnd) (drawn : ℕ) (ran : IsManyRun world may_stop names job_at (TakesTimed is_reading Takes) jobs (map begin tools) (map back workers) end drawn) where
   -- each of the tools comes back
   pub as_many : length workers ≡ length tools

@@ -111,13 +111,13 @@ sums_of_results world plan loaded ran no_end no_warmup no_fail all =
     let works = carried.ran.all_work in
     let cold : warm_of many.times ≡ 0 = ap (λ n. n * 1000000) (ran.planned.warmup ∙ no_warmup) in
     let plain : many.fails_statuses ≡ false = ran.planned.fails ∙ no_fail in
-    let start = each_map begun_of works _ carried.ran.begun_is (λ own. IsUncounted many.hosts (counting_of many) own.0) carried.uncounted in
+    let start = each_map begun_of works _ carried.ran.begun_is (λ own. IsUncounted many.sites (counting_of many) own.0) carried.uncounted in
     let each : Each works (λ work. Tallies (ends_in (told_of work)) work.ended.figures.all) = λ k d within.
     let work = get_or works k d in
     let none = start k d within in
     (thread_counted _ work.begun work.ended work.told (carried.ran.worked k d within).taken (ap (λ (f : JobFigures). f.all) none.figures) (rw none.counting_is plain) (rw none.counting_is cold)).0 in
-    let adds = subst (λ l. AddsAll (no_figures many.hosts) (reverse (map results_of l)) by.collected.figures) (sym carried.ran.back_is) carried.figures_are in
-    let tallies = subst (λ (f : JobFigures). Tallies (results_in world plan loaded ran) f.all) (sym by.figures_are) (all_counted (no_figures many.hosts) by.collected.figures works adds refl each) in
+    let adds = subst (λ l. AddsAll (no_figures many.sites) (reverse (map results_of l)) by.collected.figures) (sym carried.ran.back_is) carried.figures_are in
+    let tallies = subst (λ (f : JobFigures). Tallies (results_in world plan loaded ran) f.all) (sym by.figures_are) (all_counted (no_figures many.sites) by.collected.figures works adds refl each) in
     let long : length (results_in world plan loaded ran) ≡ loaded.drawn =
     length-map (flat_map told_of works) (λ (r : ℕ × Done). r.1) ∙ sym (length-map (flat_map told_of works) (λ (r : ℕ × Done). r.0)) ∙ length_first loaded.drawn (numbers_of (flat_map told_of works)) carried.ran.once in
     let most : jobs_of many.jobs ≡ plan.options.jobs = ap jobs_of (ran.planned.jobs ∙ ap (λ (s : Option ℕ). jobs_planned plan.options s) no_end) in
@@ -132,9 +132,9 @@ has_all seconds warmup done jobs no_end no_warmup lacks =
 -- its report is the report of its results
 pub of_all_results : {W : Type 0} (world : World W) (plan : LoadPlan) (loaded : LoadedMany) (ran : RunsMany world plan loaded) (outcome : LoadOutcome) → lacks_jobs plan loaded ≡ false
     → (plan.flags.json ≡ false → string_bytes outcome.report ≡ load_lines loaded) → CountsAll plan outcome → plan.flags.json ≡ false
-    → string_bytes outcome.report ≡ report_text loaded.gathered.hosts.items (results_in world plan loaded ran)
+    → string_bytes outcome.report ≡ report_text loaded.hosts.items (results_in world plan loaded ran)
 unfolding report_text
 of_all_results world plan loaded ran outcome lacks report counts text =
     let done = capped (loaded.figures.all.good + loaded.figures.all.failed) in
     let all = has_all plan.numbers.seconds plan.numbers.warmup done plan.options.jobs counts.no_duration counts.no_warmup lacks in
-    report text ∙ ap (lines_text loaded.gathered.hosts.items) (sums_of_results world plan loaded ran counts.no_duration counts.no_warmup counts.no_fail all)
+    report text ∙ ap (lines_text loaded.hosts.items) (sums_of_results world plan loaded ran counts.no_duration counts.no_warmup counts.no_fail all)

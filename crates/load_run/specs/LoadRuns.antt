@@ -1,5 +1,5 @@
 -- Loads: the plan of the run, its report and its status.
-use Rattle.std.specs.Prelude.{◌≡◌, ◌≢◌, ◌⊎◌, ◌↔◌, ◌&&◌, ◌==◌, not, is_some, ◌+◌, ◌*◌, ◌<◌, ℕ, zero, suc, Bool, IsTrue, false, List, [], flat_map, length, map, string_bytes, unwrap_or, ⊤, Option, None, Some}
+use Rattle.std.specs.Prelude.{◌≡◌, ◌≢◌, ◌⊎◌, ◌↔◌, ◌&&◌, ◌==◌, not, nat_le, if◌then◌else◌, is_some, ◌+◌, ◌*◌, ◌<◌, ℕ, zero, suc, Bool, IsTrue, false, List, [], flat_map, length, map, string_bytes, unwrap_or, ⊤, Option, None, Some}
 use Rattle.std.specs.List.{All}
 use Rattle.std.specs.Option.{option_map}
 use Rattle.mio.specs.declared.net.stream.TcpStream.{TcpStream as MioStream}
@@ -46,16 +46,30 @@ positive None = None
 positive (Some zero) = None
 positive (Some (suc number)) = Some (suc number)
 
--- The run follows the plan from the command line, field by field. For each thread, each of its hosts has addresses; and
--- each site of the plan is one of its hosts.
+-- no limit keeps a load from opening connections, or from keeping them all
+abbrev pub is_unlimited : LoadPlan → Bool
+is_unlimited plan =
+    (plan.options.host_limit == 0) && ((plan.options.total == 0)
+    && nat_le (unwrap_or plan.numbers.connections plan.options.workers) plan.options.connects)
+
+-- number of hosts that each site has in the cache: one for each thread if the load is unlimited, has URLs and no trace, and
+-- needs at most 1,024 hosts; otherwise one
+abbrev pub hosts_each : LoadPlan → ℕ → ℕ
+hosts_each plan sites =
+    if nat_le (sites * plan.options.workers) 1024 && (is_unlimited plan && (not (is_some plan.trace) && not (length plan.urls.items == 0)))
+    then plan.options.workers else 1
+
+-- The run follows the plan from the command line, field by field. For each thread, each host has the addresses of its site,
+-- and each site of the plan has hosts.
 pub record IsManyPlanOf (plan : LoadPlan) (many : ManyPlan) : Type 0 where
   pub limits : many.limits ≡ bounds_of plan.options.host_limit plan.options.total plan.options.connects
   pub urls : many.urls.now ≡ plan.jobs.items
   pub jobs : many.jobs ≡ jobs_planned plan.options plan.numbers.seconds
   pub threads : length many.addresses.items ≡ plan.options.workers
-  pub hosts : AreAllBelow many.hosts plan.jobs.items
-  pub located : All (λ (own : Addresses). AreLocated plan.jobs.items plan.resolved.items 0 own.hosts.items) many.addresses.items
-  pub all_located : All (λ (own : Addresses). length own.hosts.items ≡ many.hosts) many.addresses.items
+  pub sites : AreAllBelow many.sites plan.jobs.items
+  pub each : many.each ≡ hosts_each plan many.sites
+  pub located : All (λ (own : Addresses). AreLocated many.each plan.jobs.items plan.resolved.items own.hosts.items) many.addresses.items
+  pub all_located : All (λ (own : Addresses). length own.hosts.items ≡ many.sites * many.each) many.addresses.items
   pub connections : many.connections ≡ unwrap_or plan.numbers.connections plan.options.workers
   pub seconds : many.times.seconds ≡ plan.numbers.seconds
   pub warmup : many.times.warmup ≡ plan.numbers.warmup
@@ -81,9 +95,9 @@ results_in world plan loaded ran = ends_in (flat_map told_of ran.is_loaded.by_th
 abbrev pub job_sums : JobCounts → JobSums
 job_sums counts = record { jobs = capped (counts.good + counts.failed); failed = counts.failed; reused = counts.reused; retried = counts.retried; bytes = counts.bytes }
 
--- the report without JSON: a line for each host, one for all hosts, and one for the requests
+-- the report without JSON: a line for each site, one for all sites, and one for the requests
 abbrev pub load_lines : LoadedMany → Text
-load_lines loaded = lines_text loaded.gathered.hosts.items (job_sums loaded.figures.all)
+load_lines loaded = lines_text loaded.hosts.items (job_sums loaded.figures.all)
 
 -- more than that many hundredths of a percent of the requests failed
 abbrev pub FailsAbove : Option ℕ → JobCounts → Type 0
@@ -130,7 +144,7 @@ pub record ReportsRun {W : Type 0} (world : World W) (plan : LoadPlan) (outcome 
   pub outcome_is : IsLoadOutcomeOf plan loaded outcome
   pub whole : outcome.status ≢ 130 → lacks_jobs plan loaded ≡ false
   pub of_results : CountsAll plan outcome → plan.flags.json ≡ false
-      → string_bytes outcome.report ≡ report_text loaded.gathered.hosts.items (results_in world plan loaded ran)
+      → string_bytes outcome.report ≡ report_text loaded.hosts.items (results_in world plan loaded ran)
 
 -- the host of one of the plan's jobs is a name without an address by `--resolve`
 abbrev pub IsUnknownSite : LoadPlan → Text → Type 0

@@ -1,6 +1,6 @@
 -- The sites of a load, and their addresses.
-use Rattle.std.specs.Prelude.{◌≡◌, ◌⊎◌, ◌+◌, ◌<◌, ◌++◌, ℕ, List, [], ◌∷◌, string_bytes, Option, Some, None}
-use Rattle.std.specs.List.{All, Contains}
+use Rattle.std.specs.Prelude.{◌≡◌, ◌⊎◌, ◌+◌, ◌/◌, ◌<◌, ◌++◌, ℕ, List, [], ◌∷◌, get_or, length, string_bytes, Option, Some, None}
+use Rattle.std.specs.List.{All, Contains, slice_get}
 use Rattle.std.specs.Global.{Vec}
 use Rattle.std.specs.declared.net.socket_addr.SocketAddr.{SocketAddr}
 use Rattle.clap.specs.Words.{Text}
@@ -85,17 +85,24 @@ IsListAt target (Known known) list = list ≡ known.items
 abbrev pub IsListOf : LoadSite → Vec SocketAddr → Type 0
 IsListOf site addresses = IsListAt site.target.now site.place addresses.items
 
--- a host with that index, of a job, has these addresses
+-- the site at that place
+abbrev pub IsSiteAt : List LoadSite → ℕ → LoadSite → Type 0
+IsSiteAt sites place site = slice_get sites place ≡ Some site
+
+-- each host has the addresses of its site; each site has `each` consecutive hosts
+abbrev pub AreHostsOf : ℕ → List LoadSite → List (Vec SocketAddr) → Type 0
+AreHostsOf each sites hosts = (host : ℕ) (other : Vec SocketAddr) → host < length hosts → (site : LoadSite) × IsSiteAt sites (host / each) site × IsListOf site (get_or hosts host other)
+
+-- a host of the site with that index, of a job, has these addresses
 pub record IsLocated (jobs : List Job) (resolved : List Resolved) (index : ℕ) (addresses : Vec SocketAddr) : Type 0 where
   pub job : Job
   pub among : Contains jobs job
   pub index_is : job.site ≡ index
   pub are : AreAddressesOf resolved job.target addresses.items
 
--- the same for hosts, the first of which has that index
-abbrev pub AreLocated : List Job → List Resolved → ℕ → List (Vec SocketAddr) → Type 0
-AreLocated jobs resolved index [] = Unit {0}
-AreLocated jobs resolved index (addresses ∷ hosts) = IsLocated jobs resolved index addresses × AreLocated jobs resolved (index + 1) hosts
+-- the same for all hosts, `each` consecutive ones a site
+abbrev pub AreLocated : ℕ → List Job → List Resolved → List (Vec SocketAddr) → Type 0
+AreLocated each jobs resolved hosts = (host : ℕ) (other : Vec SocketAddr) → host < length hosts → IsLocated jobs resolved (host / each) (get_or hosts host other)
 
 -- the lines of sites in a trace
 abbrev pub site_lines : List LoadSite → Text

@@ -1,5 +1,5 @@
 -- What a load with many jobs at once leaves.
-use Rattle.std.specs.Prelude.{◌≡◌, ℕ, ◌-◌, ◌<◌, List, [], length, map, min, reverse, Option, Some, None, false}
+use Rattle.std.specs.Prelude.{◌≡◌, ℕ, ◌-◌, ◌*◌, ◌<◌, List, [], length, map, min, reverse, Option, Some, None, false}
 use Rattle.std.specs.List.{All}
 use Rattle.std.specs.Global.{Vec}
 use Rattle.conn_log.specs.declared.entry.Entry.{Entry}
@@ -17,6 +17,7 @@ use Rattle.load_run.specs.declared.counted_results.CountedResults.{CountedResult
 use Rattle.load_run.specs.declared.loading.LoadedMany.{LoadedMany}
 use Rattle.load_run.specs.declared.plan.ManyPlan.{ManyPlan}
 use Rattle.load_figures.specs.Figures.{no_figures}
+use Rattle.load_report.specs.Accounts.{site_totals}
 use Rattle.load_run.specs.declared.account.Collected.{Collected}
 use Rattle.load_run.specs.declared.counted_results.Counting.{Counting}
 use Rattle.load_run.specs.Counting.{AddsAll, IsUncounted, Takes, missed_of, warm_of, with_unbegun}
@@ -43,7 +44,7 @@ results_of back = back.0
 abbrev pub pass_of : CountedResults × ℕ × Accounts → Accounts
 pass_of back = back.2
 
--- nothing was collected yet, for `hosts` hosts
+-- nothing was collected yet, for `hosts` sites
 pub record IsNone (hosts : ℕ) (collected : Collected) : Type 0 where
   pub figures : collected.figures ≡ no_figures hosts
   pub unbegun : collected.unbegun ≡ 0
@@ -65,7 +66,7 @@ pub record Collects {D : Type 0} (old new : Collected) (workers : List (Finished
 -- `workers` threads carried out these jobs in a run over the cache of those names, and no fault ended it. `may_stop` is true
 -- of each job that the run may stop, and `is_reading` of each possible reading of its clock. `collected` has the passes of
 -- the run, the sum of what its threads counted, and the number of jobs that were stopped before they began.
-pub record HasCarriedOut {W : Type 0} (world : World W) (may_stop is_reading : ℕ → Type 0) (names : CacheNames) (job_at : ℕ → Job) (jobs workers hosts : ℕ) (counting : Counting) (collected : Collected) (drawn : ℕ) : Type 0 where
+pub record HasCarriedOut {W : Type 0} (world : World W) (may_stop is_reading : ℕ → Type 0) (names : CacheNames) (job_at : ℕ → ℕ → Job) (jobs workers hosts : ℕ) (counting : Counting) (collected : Collected) (drawn : ℕ) : Type 0 where
   pub begun : List (CountedResults × ℕ)
   pub back : List (CountedResults × ℕ × Accounts)
   pub end : RunEnd
@@ -81,10 +82,10 @@ pub record HasCarriedOut {W : Type 0} (world : World W) (may_stop is_reading : �
 pub record HasRun {W : Type 0} (world : World W) (may_stop is_reading : ℕ → Type 0) (names : CacheNames) (plan : ManyPlan) (collected : Collected) (drawn : ℕ) : Type 0 where
   pub otherwise : Job
   pub some : 0 < length plan.urls.now
-  pub carried_out : HasCarriedOut world may_stop is_reading names (in_turn plan.urls.now otherwise) (jobs_of plan.jobs) (workers_of plan) plan.hosts (counting_of plan) collected drawn
+  pub carried_out : HasCarriedOut world may_stop is_reading names (in_turn plan.each plan.urls.now otherwise) (jobs_of plan.jobs) (workers_of plan) plan.sites (counting_of plan) collected drawn
 
 -- The jobs are those of such a run, and so are the figures. The logs are cut from those of the cache, and the account is
--- that of the cache at its end, with the passes of the run. The run ended at a reading of its clock, from which the elapsed
+-- that of the cache at its end, with the passes of the run; so is what happened at each site's hosts. The run ended at a reading of its clock, from which the elapsed
 -- time and the number of missed jobs are computed.
 pub record IsLoadedManyBy {W : Type 0} (world : World W) (may_stop is_reading : ℕ → Type 0) (names : CacheNames) (plan : ManyPlan) (loaded : LoadedMany) : Type 0 where
   pub collected : Collected
@@ -96,11 +97,12 @@ pub record IsLoadedManyBy {W : Type 0} (world : World W) (may_stop is_reading : 
   pub missed_is : loaded.missed ≡ missed_of plan.times (jobs_of plan.jobs) ended (loaded.drawn - collected.unbegun)
   pub logs_are : AreLogsOf W names loaded.logs.items
   pub gathered_is : IsGathered names collected.passes.items loaded.gathered
+  pub hosts_are : loaded.hosts.items ≡ site_totals plan.sites plan.each loaded.gathered.hosts.items
 
--- and that cache was made under the plan's limits, for the plan's number of hosts
+-- and that cache was made under the plan's limits, for the hosts of its sites
 pub record IsLoadedMany {W : Type 0} (world : World W) (may_stop is_reading : ℕ → Type 0) (plan : ManyPlan) (loaded : LoadedMany) : Type 0 where
   pub names : CacheNames
-  pub planned : IsPlanFor plan.limits plan.hosts names
+  pub planned : IsPlanFor plan.limits (plan.sites * plan.each) names
   pub by_them : IsLoadedManyBy world may_stop is_reading names plan loaded
 
 -- the logs of the hosts of a cache whose connections are those of that world

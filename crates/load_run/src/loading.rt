@@ -8,6 +8,7 @@ ghost use Rattle.shared_cache.specs.Gathering.{IsGathered};
 ghost use Rattle.shared_cache.specs.Passes.{IsPassOf};
 ghost use Rattle.driver.specs.Faults.{are_bad_workers};
 ghost use Rattle.driver.specs.ManyWork.{HavePasses};
+ghost use Rattle.load_report.specs.Accounts.{site_totals};
 ghost use Rattle.load_run.specs.Loading.{IsLoadRefusedFor};
 ghost use Rattle.load_run.specs.ManyLoads.{AreLogsIn, Collects, IsLoadedMany, IsLoadedManyBy};
 ghost use Rattle.load_run.specs.ManyLoads.{IsNone, counting_of, jobs_of, workers_of};
@@ -30,8 +31,9 @@ use conn_log::Entry;
 use driver::{DriverFault, ManyReport, NotBegun, Tools, run_many};
 use exchange::Wire;
 use load_figures::Figures;
+use load_report::site_totals;
 use run_loop::MicroClock;
-use shared_cache::{Gathered, Names, Plan, SharedCache, discard_all};
+use shared_cache::{Gathered, HostCount, Names, Plan, SharedCache, discard_all};
 use socket::{PolledAlarm, PolledDial, PolledWire};
 use std::alloc::{AllocGlobal, Global};
 use std::marker::Brand;
@@ -58,8 +60,19 @@ pub struct LoadedMany {
     pub waited: u64,
     /// The end of each host's log, after the entries that the watcher took. Oldest entry first.
     pub logs: Vec<Vec<Entry>>,
+    /// What happened at the hosts of each site, added up.
+    pub hosts: Vec<HostCount>,
     /// The account of the cache. Dropping it closes the connections that are still open.
     pub gathered: Gathered<PolledWire>,
+}
+
+/// What a run was to do, as far as its account depends on it.
+#[derive(Clone, Copy)]
+struct RunPlan {
+    times: LoadTimes,
+    jobs: u64,
+    sites: u32,
+    each: u32,
 }
 
 /// The result of a run whose cache is not gathered yet.
@@ -98,7 +111,10 @@ pub fn load_many<R: Threads + Wait + RandomSource + AllocGlobal + Sync, V: Watch
     ensures workers { OnOk result (are_bad_workers (workers_of plan.entry) ≡ false) }
     ensures refused { IfErr result (IsLoadRefusedFor (workers_of plan.entry)) }
 {
-    let planned: Result<Plan<PolledWire>, Refusal> = Plan::new(alloc, plan.limits, plan.hosts);
+    let Some(count) = plan.sites.checked_mul(plan.each) else {
+        return Err(LoadError::Run(DriverFault::Memory));
+    };
+    let planned: Result<Plan<PolledWire>, Refusal> = Plan::new(alloc, plan.limits, count);
     match planned {
         Ok(hosts) => load_over::<Brand, R, V>(rt, system, alloc, hosts, plan, watch),
         Err(_refusal) => Err(LoadError::Run(DriverFault::Memory)),
@@ -134,6 +150,12 @@ fn load_over<
     };
     let (times, places) = (plan.times, plan.connections as usize);
     let jobs = job_count(plan.jobs);
+    let run = RunPlan {
+        times,
+        jobs,
+        sites: plan.sites,
+        each: plan.each,
+    };
     let Ok(progress) = progress_for(alloc, places.min(plan.addresses.len())) else {
         return Err(LoadError::Run(DriverFault::Memory));
     };
@@ -152,7 +174,7 @@ fn load_over<
     };
     let ran = collected.ran::<N>(report, timer.moment(), timer.waits.micros())?;
     drop(timer);
-    account_of(rt, alloc, cache, ran, times, jobs)
+    account_of(rt, alloc, cache, ran, run)
 }
 
 // Returns the number of jobs; all that can be drawn, if it is not limited.
@@ -183,11 +205,12 @@ impl<'a> LoadParts<'a> {
     ) -> Result<LoadParts<'a>, LoadError>
         requires { length progress.now ≡ workers_of plan }
         ensures urls { IfOk result (λ parts. parts.source.urls.now ≡ plan.entry.urls.now) }
+        ensures each { IfOk result (λ parts. parts.source.each ≡ plan.entry.each) }
         ensures number { IfOk result (λ parts. vec_len parts.tools ≡ workers_of plan.entry) }
         ensures uncounted { IfOk result (λ parts.
-            All (λ own. IsUncounted plan.entry.hosts (counting_of plan.entry) own.results)
+            All (λ own. IsUncounted plan.entry.sites (counting_of plan.entry) own.results)
             parts.tools.items) }
-        ensures none { IfOk result (λ parts. IsNone plan.entry.hosts parts.collected) }
+        ensures none { IfOk result (λ parts. IsNone plan.entry.sites parts.collected) }
         ensures room { IfOk result (λ parts.
             vec_len parts.tools ≤ vec_capacity parts.collected.passes) }
         ensures refused { (workers : ℕ) → IfErr result (IsLoadRefusedFor workers) }
@@ -197,14 +220,14 @@ impl<'a> LoadParts<'a> {
             times: plan.times,
             fails_statuses: plan.fails_statuses,
         };
-        let Some(source) = UrlJobs::new(alloc, plan.urls, plan.times.rate) else {
+        let Some(source) = UrlJobs::new(alloc, plan.urls, plan.times.rate, plan.each) else {
             return Err(LoadError::Run(DriverFault::Memory));
         };
         let mut addresses = plan.addresses;
         addresses.truncate(progress.len());
-        let tools = tools_for(system, alloc, addresses, plan.hosts, counting, progress)?;
+        let tools = tools_for(system, alloc, addresses, plan.sites, counting, progress)?;
         let alarms = alarms_of(alloc, &tools)?;
-        let collected = Collected::new(alloc, plan.hosts, tools.len())?;
+        let collected = Collected::new(alloc, plan.sites, tools.len())?;
         Ok(LoadParts {
             source,
             tools,
@@ -287,19 +310,20 @@ fn account_of<N: Names, R: Wait>(
     alloc: Global,
     cache: SharedCache<PolledWire, N>,
     ran: Ran,
-    times: LoadTimes,
-    jobs: u64,
+    run: RunPlan,
 ) -> Result<LoadedMany, LoadError>
     requires { All (IsPassOf N.names) ran.collected.passes.items }
     ensures drawn { IfOk result (λ loaded. loaded.drawn ≡ ran.drawn) }
     ensures figures { IfOk result (λ loaded. loaded.figures ≡ ran.collected.figures) }
-    ensures elapsed { IfOk result (λ loaded. loaded.elapsed ≡ ran.ended - warm_of times) }
+    ensures elapsed { IfOk result (λ loaded. loaded.elapsed ≡ ran.ended - warm_of run.times) }
     ensures missed { IfOk result (λ loaded. loaded.missed
-        ≡ missed_of times jobs ran.ended (ran.drawn - ran.collected.unbegun)) }
+        ≡ missed_of run.times run.jobs ran.ended (ran.drawn - ran.collected.unbegun)) }
     ensures logs { IfOk result (λ loaded. AreLogsIn (world_of ⟦<PolledWire as Wire>⟧.untouched
         ⟦<PolledWire as Wire>⟧.happened (λ moment. ⊤)) N.names loaded.logs.items) }
     ensures gathered { IfOk result (λ loaded.
         IsGathered N.names ran.collected.passes.items loaded.gathered) }
+    ensures hosts { IfOk result (λ loaded.
+        loaded.hosts.items ≡ site_totals run.sites run.each loaded.gathered.hosts.items) }
     ensures refused { (workers : ℕ) → IfErr result (IsLoadRefusedFor workers) }
 {
     let Ran {
@@ -320,19 +344,24 @@ fn account_of<N: Names, R: Wait>(
             return Err(error_of(refusal));
         }
     };
-    match cache.gather(alloc, passes) {
-        Ok(gathered) => Ok(LoadedMany {
-            figures,
-            elapsed: ended.saturating_sub(times.warm()),
-            drawn,
-            waited,
-            missed: missed(times, jobs, ended, drawn.saturating_sub(unbegun)),
-            logs,
-            gathered,
-        }),
+    let gathered = match cache.gather(alloc, passes) {
+        Ok(gathered) => gathered,
         Err((_cache, passes, refusal)) => {
             discard_all(passes);
-            Err(error_of(refusal))
+            return Err(error_of(refusal));
         }
-    }
+    };
+    let Ok(hosts) = site_totals(alloc, &gathered.hosts, run.sites, run.each) else {
+        return Err(LoadError::Run(DriverFault::Memory));
+    };
+    Ok(LoadedMany {
+        figures,
+        elapsed: ended.saturating_sub(run.times.warm()),
+        drawn,
+        waited,
+        missed: missed(run.times, run.jobs, ended, drawn.saturating_sub(unbegun)),
+        logs,
+        hosts,
+        gathered,
+    })
 }

@@ -16,9 +16,13 @@ const SECOND: u64 = 1_000_000;
 pub struct ManyPlan<'a> {
     /// Limits of the cache.
     pub limits: Limits,
-    /// Number of sites, at most 1,024.
-    pub hosts: u32,
-    /// The addresses of the sites, for each of 1 to 64 threads.
+    /// Number of sites.
+    pub sites: u32,
+    /// Number of hosts that each site has in the cache: 1, or the number of threads, so that no two
+    /// of them share a host. The cache has at most 1,024 hosts.
+    pub each: u32,
+    /// The addresses of the cache's hosts, `each` consecutive ones a site, for each of 1 to 64
+    /// threads.
     pub addresses: Vec<Addresses>,
     /// The job of each URL. There is at least one.
     pub urls: &'a [Job],

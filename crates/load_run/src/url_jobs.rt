@@ -1,7 +1,8 @@
 //! Jobs that request URLs in turn.
 
-ghost use Rattle.std.specs.Prelude.{◌≡◌, ◌<◌, ℕ, length, map, string_bytes, IfOk, IfSome};
+ghost use Rattle.std.specs.Prelude.{◌≡◌, ◌<◌, length, map, string_bytes, IfOk, IfSome};
 ghost use Rattle.exchange.specs.Answers.{job_text};
+ghost use Rattle.load_run.specs.UrlJobs.{host_for};
 
 use crate::pace::Rate;
 use driver::JobSource;
@@ -9,8 +10,9 @@ use exchange::{Job, Prepared};
 use std::alloc::{AllocError, Global};
 
 /// Jobs that request URLs in turn: job K is the job of URL K modulo their number, as transfer K.
-/// With a rate, each job is due later than the one before it. The text of a URL's request is
-/// written once.
+/// Each site has `each` consecutive hosts in the cache, and a worker's jobs use one of them. With a
+/// rate, each job is due later than the one before it. The text of a URL's request is written
+/// once.
 #[derive(Drop)]
 pub(crate) struct UrlJobs<'a> {
     alloc: Global,
@@ -19,14 +21,23 @@ pub(crate) struct UrlJobs<'a> {
     // The text of each URL's request.
     texts: Vec<String>,
     rate: Option<Rate>,
+    // Number of hosts of each site.
+    each: u32,
     ghost some: { 0 < length urls.now },
     ghost written: { map string_bytes texts.items ≡ map job_text urls.now },
 }
 
 impl<'a> UrlJobs<'a> {
-    /// Makes the jobs of these URLs; `None` if there is no URL, or no memory.
-    pub(crate) fn new(alloc: Global, urls: &'a [Job], rate: Option<Rate>) -> Option<UrlJobs<'a>>
-        ensures { IfSome result (λ source. source.urls.now ≡ urls.now) }
+    /// Makes the jobs of these URLs, whose sites have `each` hosts each; `None` if there is no URL,
+    /// or no memory.
+    pub(crate) fn new(
+        alloc: Global,
+        urls: &'a [Job],
+        rate: Option<Rate>,
+        each: u32,
+    ) -> Option<UrlJobs<'a>>
+        ensures urls { IfSome result (λ source. source.urls.now ≡ urls.now) }
+        ensures each { IfSome result (λ source. source.each ≡ each) }
     {
         let (first, _) = urls.split_first()?;
         let texts = texts_of(alloc, urls).ok()?;
@@ -36,7 +47,16 @@ impl<'a> UrlJobs<'a> {
             first,
             texts,
             rate,
+            each,
         })
+    }
+
+    // Returns the worker's host of a site.
+    fn host_for(&self, worker: usize, site: u32) -> Option<u32>
+        ensures { IfSome result (λ host. host ≡ host_for self.now.each worker site) }
+    {
+        let own = worker.checked_rem(self.each as usize)?;
+        site.checked_mul(self.each)?.checked_add(own as u32)
     }
 }
 
@@ -55,7 +75,8 @@ fn texts_of(alloc: Global, urls: &[Job]) -> Result<Vec<String>, AllocError>
 impl JobSource for UrlJobs<'_> {
     ghost use Rattle.load_run.specs.UrlJobs.{in_turn};
 
-    ghost job_at = { λ jobs number. in_turn jobs.urls.now jobs.first.now number };
+    ghost job_at = { λ jobs worker number.
+        in_turn jobs.each jobs.urls.now jobs.first.now worker number };
 
     fn due(&self, number: u64) -> u64 {
         match self.rate {
@@ -64,13 +85,21 @@ impl JobSource for UrlJobs<'_> {
         }
     }
 
-    fn prepare(&self, number: u64, spare: Option<Prepared>) -> Result<Prepared, Option<Prepared>> {
+    fn prepare(
+        &self,
+        worker: usize,
+        number: u64,
+        spare: Option<Prepared>,
+    ) -> Result<Prepared, Option<Prepared>> {
         let index = (number % self.urls.len() as u64) as usize;
         let (url, text) = (&self.urls[index], self.texts[index].as_str());
-        let Some(used) = spare else {
-            return Prepared::new_as(self.alloc, url, number, text).map_err(|_| None);
+        let Some(host) = self.host_for(worker, url.site) else {
+            return Err(spare);
         };
-        used.again_as(url, number, text)
+        let Some(used) = spare else {
+            return Prepared::new_as(self.alloc, url, host, number, text).map_err(|_| None);
+        };
+        used.again_as(url, host, number, text)
             .map_err(|(left, _)| Some(left))
     }
 }

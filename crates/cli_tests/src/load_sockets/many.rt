@@ -5,6 +5,7 @@ use budget::Limits;
 use conn_key::Target;
 use conn_log::Want;
 use exchange::Job;
+use load_report::totals;
 use load_run::{LoadTimes, LoadedMany, ManyPlan, Rate, Unwatched, load_many};
 use loopback_server::Server;
 use persistence::Method;
@@ -22,6 +23,8 @@ use std::{io, thread};
 #[derive(Clone, Copy, Debug)]
 struct Row {
     sites: u32,
+    /// Number of hosts of each site in the cache.
+    each: u32,
     workers: u32,
     connections: u32,
     /// Maximum number of open connections; 0 means no limit.
@@ -42,6 +45,7 @@ struct Row {
 /// Of one site, without limits of time.
 const UNTIMED: Row = Row {
     sites: 1,
+    each: 1,
     workers: 2,
     connections: 4,
     total: 0,
@@ -79,19 +83,37 @@ fn urls_at(alloc: Global, ports: &[u16]) -> Result<Vec<Job>, AllocError> {
     Ok(urls)
 }
 
-// The addresses of the sites at these ports, for so many threads.
-fn addresses_at(alloc: Global, ports: &[u16], workers: u32) -> Result<Vec<Addresses>, AllocError> {
+// The addresses of the hosts of sites at these ports, for so many threads. Each site has so many.
+fn addresses_at(
+    alloc: Global,
+    ports: &[u16],
+    workers: u32,
+    each: u32,
+) -> Result<Vec<Addresses>, AllocError> {
     let mut all = Vec::new(alloc);
     for _ in 0..workers {
         let mut addresses = Addresses::new(alloc);
         for port in ports {
-            let place = SocketAddr::new(IpAddr::V4(Ipv4Addr::LOCALHOST), *port);
-            let one = vec![in alloc; place; 1]?;
-            addresses.add_resolved(one)?;
+            add_hosts(alloc, &mut addresses, *port, each)?;
         }
         all.push(addresses)?;
     }
     Ok(all)
+}
+
+// Adds so many hosts at that port.
+fn add_hosts(
+    alloc: Global,
+    addresses: &mut Addresses,
+    port: u16,
+    each: u32,
+) -> Result<(), AllocError> {
+    let place = SocketAddr::new(IpAddr::V4(Ipv4Addr::LOCALHOST), port);
+    for _ in 0..each {
+        let one = vec![in alloc; place; 1]?;
+        addresses.add_resolved(one)?;
+    }
+    Ok(())
 }
 
 // Carries out the load at these ports.
@@ -105,8 +127,9 @@ fn load_at<R: Threads + Wait + RandomSource + AllocGlobal + Sync + Abort>(
     let urls = urls_at(alloc, ports)?;
     let plan = ManyPlan {
         limits: Limits::new(0, row.total, 1_000).expect(rt, "limits"),
-        hosts: u32::try_from(ports.len()).unwrap_or(u32::MAX),
-        addresses: addresses_at(alloc, ports, row.workers)?,
+        sites: u32::try_from(ports.len()).unwrap_or(u32::MAX),
+        each: row.each,
+        addresses: addresses_at(alloc, ports, row.workers, row.each)?,
         urls: &urls,
         jobs: row.jobs,
         connections: row.connections,
@@ -166,7 +189,7 @@ fn load_served<R: Threads + Wait + RandomSource + AllocGlobal + Sync + Abort>(
 }
 
 /// Loads of the server.
-static ROWS: [Row; 6] = [
+static ROWS: [Row; 7] = [
     Row {
         sites: 8,
         workers: 8,
@@ -190,6 +213,15 @@ static ROWS: [Row; 6] = [
         connections: 8,
         jobs: Some(1_000),
         requests: (1_000, 1_000),
+        ..UNTIMED
+    },
+    // A host for each worker.
+    Row {
+        sites: 3,
+        each: 2,
+        connections: 8,
+        jobs: Some(300),
+        requests: (300, 300),
         ..UNTIMED
     },
     // More workers than places.
@@ -234,10 +266,28 @@ fn figures_and_account_are_those_of_the_server(rt: HostRuntime) {
         );
         let millis = loaded.elapsed / 1_000;
         assert!(rt; row.millis <= millis, "{row:?}: {millis}");
-        assert!(rt;
-            loaded.gathered.hosts.len() == row.sites as usize,
-            "{row:?}"
+        let hosts = row.sites.saturating_mul(row.each) as usize;
+        check_eq(
+            &rt,
+            (loaded.gathered.hosts.len(), loaded.hosts.len()),
+            (hosts, row.sites as usize),
         );
+        check_eq(&rt, totals(&loaded.hosts), totals(&loaded.gathered.hosts));
+    }
+}
+
+// Each of two workers has one place, so it has at most one connection at a time at its own host.
+#[test]
+fn no_worker_uses_the_host_of_another(rt: HostRuntime) {
+    let row = Row {
+        each: 2,
+        connections: 2,
+        jobs: Some(500),
+        ..UNTIMED
+    };
+    let (loaded, _requests) = load_served(&rt, &rt, &row).expect(&rt, "memory");
+    for host in &loaded.gathered.hosts {
+        assert!(rt; host.alive <= 1, "{host:?}");
     }
 }
 

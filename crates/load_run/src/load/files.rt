@@ -1,6 +1,6 @@
 //! The files that a load writes.
 
-ghost use Rattle.std.specs.Prelude.{◌≡◌, IfOk, IfSome};
+ghost use Rattle.std.specs.Prelude.{◌≡◌};
 
 use crate::load::failure::LoadFailure;
 use crate::load::fault::OUT_OF_MEMORY;

@@ -20,26 +20,6 @@ use load_report::{
 use std::alloc::{AllocError, Global};
 use streams::{Sink, StreamFault};
 
-/// Makes a load's outcome: its report, its note and its status.
-///
-/// # Errors
-///
-/// Memory ran out.
-pub(crate) fn outcome_of(
-    alloc: Global,
-    plan: &LoadPlan,
-    report: &LoadReport,
-    loaded: &LoadedMany,
-) -> Result<LoadOutcome, LoadFault>
-    requires { IsReportOf loaded.now.figures.all report.now.jobs }
-    ensures { IfOk result (IsOutcomeOf plan.now loaded.now) }
-{
-    match try_outcome(alloc, plan, report, loaded) {
-        Ok(outcome) => Ok(outcome),
-        Err(_) => Err(OUT_OF_MEMORY),
-    }
-}
-
 /// Makes the report of a load's figures.
 ///
 /// # Errors
@@ -84,8 +64,12 @@ pub(crate) fn write_picture(
     }
 }
 
-// Makes a load's outcome.
-fn try_outcome(
+/// Makes a load's outcome: its report, its note and its status.
+///
+/// # Errors
+///
+/// Memory ran out.
+pub(crate) fn outcome_of(
     alloc: Global,
     plan: &LoadPlan,
     report: &LoadReport,
@@ -143,7 +127,7 @@ fn fails(report: &LoadReport, fail_above: Option<u32>) -> bool
     }
 }
 
-// Makes the report: a line for each host, one for all hosts, and one for the requests.
+// Makes the report: a line for each site, one for all sites, and one for the requests.
 fn lines_of(alloc: Global, loaded: &LoadedMany) -> Result<String, AllocError>
     ensures { IfOk result (λ text. string_bytes text ≡ load_lines loaded.now) }
 {
@@ -155,7 +139,7 @@ fn lines_of(alloc: Global, loaded: &LoadedMany) -> Result<String, AllocError>
         retried: all.retried,
         bytes: all.bytes,
     };
-    match report_with(alloc, &loaded.gathered.hosts, sums) {
+    match report_with(alloc, &loaded.hosts, sums) {
         Ok(text) => Ok(text),
         Err(_) => Err(AllocError),
     }
@@ -173,7 +157,7 @@ fn run_of(
         urls.push(String::from_str(alloc, url.as_str())?)?;
     }
     let mut hosts = Vec::new(alloc);
-    for (site, count) in loaded.gathered.hosts.iter().enumerate() {
+    for (site, count) in loaded.hosts.iter().enumerate() {
         let host = sites.name(alloc, site)?;
         let connections = Connections {
             opened: count.opened,

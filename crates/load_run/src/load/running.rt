@@ -3,7 +3,8 @@
 ghost use Rattle.std.specs.Prelude.{◌≡◌, ◌⊎◌, IfOk};
 ghost use Rattle.load_run.specs.LoadRuns.{IsLoadOutcomeOf, lacks_jobs, IsUnknownHost};
 ghost use Rattle.load_run.specs.LoadRuns.{IsUnknownSite};
-ghost use Rattle.load_run.specs.LoadRuns.{IsManyPlanOf, ReportsRun, jobs_planned, polled_world};
+ghost use Rattle.load_run.specs.LoadRuns.{IsManyPlanOf, ReportsRun, hosts_each, jobs_planned};
+ghost use Rattle.load_run.specs.LoadRuns.{polled_world};
 ghost use Rattle.load_run.specs.LoadRuns.{per_second, positive};
 ghost use Rattle.load_run.specs.LoadSites.{AreSitesOf, AreAllBelow};
 ghost use Rattle.commands.specs.declared.load_plan.LoadPlan.{LoadPlan};
@@ -18,6 +19,7 @@ use crate::load::watch::LoadWatch;
 use crate::loading::{LoadedMany, load_many};
 use crate::pace::Rate;
 use crate::plan::{LoadTimes, ManyPlan};
+use bundle::MOST_HOSTS;
 use commands::{LoadOptions, LoadPlan, Status};
 use std::alloc::{AllocGlobal, Global};
 use std::random::RandomSource;
@@ -121,12 +123,14 @@ fn many_plan<'a>(
     ensures { IfOk result (IsManyPlanOf plan.now) }
 {
     let (options, numbers) = (plan.options, plan.numbers);
-    let Ok(addresses) = sites.addresses(alloc, options.workers) else {
+    let each = hosts_each(plan, sites.count);
+    let Ok(addresses) = sites.addresses(alloc, options.workers, each) else {
         return Err(OUT_OF_MEMORY);
     };
     Ok(ManyPlan {
         limits: options.limits(),
-        hosts: sites.count(),
+        sites: sites.count,
+        each,
         addresses,
         urls: &plan.jobs,
         jobs: jobs_of(options, numbers.seconds),
@@ -139,6 +143,31 @@ fn many_plan<'a>(
         },
         fails_statuses: plan.flags.fail,
     })
+}
+
+// Returns the number of hosts that each site has in the cache: one for each thread if the load has
+// URLs and no trace, no limit keeps it from opening connections or from keeping them all, and the
+// cache has room for the hosts; otherwise 1.
+fn hosts_each(plan: &LoadPlan, sites: u32) -> u32
+    ensures { result ≡ hosts_each plan.now sites }
+{
+    let LoadPlan {
+        options,
+        numbers,
+        ..
+    } = plan;
+    let connections = numbers.connections.unwrap_or(options.workers);
+    let is_unlimited = options.host_limit == 0
+        && options.total == 0
+        && connections <= options.connects;
+    match sites.checked_mul(options.workers) {
+        Some(hosts)
+            if hosts <= MOST_HOSTS
+                && is_unlimited
+                && plan.trace.is_none()
+                && !plan.urls.is_empty() => { options.workers }
+        _ => 1,
+    }
 }
 
 // Returns the number of jobs; None for a load with a duration.

@@ -1,12 +1,11 @@
 //! The addresses of the sites that a load requests.
 
-ghost use Rattle.std.specs.Prelude.{◌≡◌, ◌++◌, length, string_bytes, All};
+ghost use Rattle.std.specs.Prelude.{◌≡◌, ◌*◌, ◌++◌, length, string_bytes, All};
 ghost use Rattle.std.specs.Prelude.{IfErr, IfOk, OnOk};
-ghost use Rattle.std.specs.List.{AllZip};
 ghost use Rattle.socket.specs.declared.addresses.Addresses.{Addresses};
 ghost use Rattle.load_run.specs.LoadSites.{AreAllBelow, AreSitesOf, IfUnknown, IsKnown};
 ghost use Rattle.commands.specs.Numbering.{AreNumbered};
-ghost use Rattle.load_run.specs.LoadSites.{IsListOf, IsPlaceOf, site_lines};
+ghost use Rattle.load_run.specs.LoadSites.{AreHostsOf, IsPlaceOf, site_lines};
 ghost use Rattle.load_run.specs.LoadSites.{IsListAt, IsUnknownAt, IsUnknownIn};
 ghost use Rattle.socket.specs.Hosts.{AddsHost};
 
@@ -38,7 +37,8 @@ struct LoadSite<'a> {
 #[derive(Drop)]
 pub(crate) struct LoadSites<'a> {
     sites: Vec<LoadSite<'a>>,
-    count: u32,
+    /// Number of sites.
+    pub(crate) count: u32,
     ghost counted: { count ≡ length sites.items },
 }
 
@@ -93,13 +93,6 @@ impl<'a> LoadSites<'a> {
         Ok(LoadSites { sites, count })
     }
 
-    /// Returns the number of sites.
-    pub(crate) fn count(&self) -> u32
-        ensures { result ≡ self.now.count }
-    {
-        self.count
-    }
-
     /// Adds the lines of the sites to a trace.
     ///
     /// # Errors
@@ -131,34 +124,49 @@ impl<'a> LoadSites<'a> {
         }
     }
 
-    /// Their addresses, for each of so many threads.
+    /// Returns the addresses of their hosts, `each` consecutive ones a site, for each of `workers`
+    /// threads.
     ///
     /// # Errors
     ///
-    /// There is no memory for them.
+    /// There is no memory for them, or there are too many hosts.
     pub(crate) fn addresses(
         &self,
         alloc: Global,
         workers: u32,
+        each: u32,
     ) -> Result<Vec<Addresses>, AllocError>
         ensures count { IfOk result (λ all. length all.items ≡ workers) }
-        ensures each { IfOk result (λ all. All (λ (own : Addresses).
-            AllZip IsListOf self.now.sites.items own.hosts.items) all.items) }
+        ensures hosts { IfOk result (λ all. All (λ (own : Addresses).
+            AreHostsOf each self.now.sites.items own.hosts.items) all.items) }
+        ensures number { IfOk result (λ all. All (λ (own : Addresses).
+            length own.hosts.items ≡ self.now.count * each) all.items) }
     {
+        let Some(hosts) = self.count.checked_mul(each) else {
+            return Err(AllocError);
+        };
         let mut all = Vec::new(alloc);
         for _ in 0..workers {
-            let own = self.addresses_once(alloc)?;
+            let own = self.addresses_once(alloc, hosts, each)?;
             all.push(own)?;
         }
         Ok(all)
     }
 
-    // Their addresses, once.
-    fn addresses_once(&self, alloc: Global) -> Result<Addresses, AllocError>
-        ensures { IfOk result (λ own. AllZip IsListOf self.now.sites.items own.hosts.items) }
+    // Returns the addresses of the first `hosts` hosts.
+    fn addresses_once(&self, alloc: Global, hosts: u32, each: u32) -> Result<Addresses, AllocError>
+        ensures hosts { IfOk result (λ own.
+            AreHostsOf each self.now.sites.items own.hosts.items) }
+        ensures number { IfOk result (λ own. length own.hosts.items ≡ hosts) }
     {
         let mut addresses = Addresses::new(alloc);
-        for site in &self.sites {
+        if each == 0 {
+            return Err(AllocError);
+        }
+        for host in 0..hosts {
+            let Some(site) = self.sites.get((host / each) as usize) else {
+                return Err(AllocError);
+            };
             add_addresses(alloc, &mut addresses, site)?;
         }
         Ok(addresses)

@@ -1,9 +1,6 @@
 -- The figures and the account of a load are those of its run.
-use Rattle.std.proofs.Common.{rules, ◌≡◌, ◌≤◌, ◌∙◌, ap, arith, length, min, refl, subst, sym, vec_len, IfOk}
-use Rattle.exchange.specs.Worlds.{world_of}
-use Rattle.load_run.specs.declared.plan.LoadTimes.{LoadTimes}
-use Rattle.load_run.specs.ManyLoads.{IsLoadedManyBy, counting_of, workers_of}
-use Rattle.load_run.specs.Stopping.{MayStop}
+use Rattle.std.proofs.Common.{rules, ◌≡◌, ◌≤◌, ◌∙◌, arith, length, refl, vec_len}
+use Rattle.load_run.specs.ManyLoads.{counting_of, workers_of}
 use Rattle.load_run.proofs.CarriedOut.{as_many, has_carried_out}
 use Rattle.load_run.proofs.ManyRefusals.{good_workers, not_begun}
 use Rattle.load_run.proofs.Refusals.{handed_on}
@@ -22,10 +19,10 @@ returns-clause-ok g c =
     let account = c.account_of.ensures in
     let here : length tools.items ≡ vec_len tools = search rules in
     let many : length tools.items ≡ workers_of plan = here ∙ c.in_ok-source.ensures.number in
-    let carried_out = has_carried_out _ _ _ names _ jobs _ _ tools.items report.workers.items _ _ c.in-Ok-run_many.ensures.ok (λ own. refl) (λ own. (refl, refl)) parts.collected ran.collected ran.drawn plan.hosts (counting_of plan)
+    let carried_out = has_carried_out _ _ _ names _ jobs _ _ tools.items report.workers.items _ _ c.in-Ok-run_many.ensures.ok (λ own. refl) (λ own. (refl, refl)) parts.collected ran.collected ran.drawn plan.sites (counting_of plan)
     c.in_ok-ran.ensures.collects c.in_ok-ran.ensures.drawn c.in_ok-ran.ensures.sound c.in_ok-source.ensures.none c.in_ok-source.ensures.uncounted in
-    let has = has_run _ _ _ names plan parts.source.urls.now parts.source.first.now jobs (length tools.items) ran.collected ran.drawn c.in_ok-source.ensures.urls parts.source.some c.job_count-jobs.ensures many carried_out in
-    let by = loaded_many_by _ _ _ names plan ran jobs c.account_of.result c.job_count-jobs.ensures has tt account.drawn account.figures account.elapsed account.missed account.logs account.gathered in
+    let has = has_run _ _ _ names plan parts.source.each parts.source.urls.now parts.source.first.now jobs (length tools.items) ran.collected ran.drawn c.in_ok-source.ensures.each c.in_ok-source.ensures.urls parts.source.some c.job_count-jobs.ensures many carried_out in
+    let by = loaded_many_by _ _ _ names plan ran jobs c.account_of.result c.job_count-jobs.ensures has tt account.drawn account.figures account.elapsed account.missed account.logs account.gathered account.hosts in
     may_stop_by _ _ names plan g.V.Watch.may_end _ _ _ _ c.account_of.result c.new-timer.ensures.times c.new-timer.ensures.watch by
 
 pub returns-clause-refused : goal.returns-clause-refused

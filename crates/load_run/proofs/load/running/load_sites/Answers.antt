@@ -1,5 +1,5 @@
 -- The load ran, or a host is unknown.
-use Rattle.std.proofs.Common.{◌≡◌, ◌∙◌, ap, false, inr, refl, subst, sym}
+use Rattle.std.proofs.Common.{◌≡◌, ◌∙◌, ap, false, inr, subst, sym}
 use Rattle.load_run.specs.LoadRuns.{RunsMany, lacks_jobs, polled_world}
 use Rattle.load_run.specs.LoadSites.{IsNameIn, IsUnknownIn}
 use Rattle.load_run.specs.declared.load.sites.SiteFault.{SiteFault}

@@ -1,17 +1,26 @@
--- The addresses of one site after another are added.
-use Rattle.std.proofs.Common.{◌<◌, ◌∙◌, List, ap, get_or, length, subst}
-use Rattle.socket.specs.Hosts.{AddsHost}
-use Rattle.load_run.specs.LoadSites.{IsListAt}
+-- The addresses of one host after another are added.
+use Rattle.std.proofs.Common.{◌∙◌, ◌/◌, ℕ, List, ap, arith, length, refl, subst, sym}
+use Rattle.std.proofs.lemmas.List.{length-append}
+use Rattle.std.proofs.lemmas.Option.{slice_get_read}
+use Rattle.load_run.specs.LoadSites.{IsSiteAt}
 use Rattle.load_run.specs.declared.load.sites.LoadSite.{LoadSite}
-use Rattle.load_run.proofs.SitePlaces.{lists_more}
+use Rattle.load_run.proofs.SitePlaces.{hosts_more}
 use Rattle.load_run.proofs.load.sites.LoadSites.addresses_once.Goals as goal
 
-pub loop-site-preserved : goal.loop-site-preserved
-loop-site-preserved c =
-    let at = c.loop-site.site-index in
-    let site = c.site-item.result in
-    let old = c.loop-site.addresses.hosts.items in
-    let new = c.add_addresses.new.addresses.hosts.items in
-    let same = c.deref-site-items.ensures.value in
-    lists_more c.args.self.now.sites.items at site old new (subst (λ (l : List LoadSite). at < length l) same c.loop-site-test.true) c.loop-site.invariant
-    (subst (λ (s : LoadSite). AddsHost old new (IsListAt s.target.now s.place)) (c.site-item.is ∙ ap (λ (l : List LoadSite). get_or l at site) same) c.in_ok-add_addresses.ensures)
+pub loop-host-preserved : goal.loop-host-preserved
+loop-host-preserved c =
+    let each = c.args.each in
+    let sites = c.args.self.now.sites.items in
+    let site = c.in-Some.site.now in
+    let old = c.loop-host.addresses.hosts.items in
+    let adds = c.in_ok-add_addresses.ensures in
+    let so_far = c.loop-host.invariant in
+    let place = c.loop-host.host / each in
+    let list = c.deref.result.now in
+    let found = slice_get_read list (length list) place site refl c.in-Some.ensures.lookup.3.0 c.in-Some.ensures.lookup.1 in
+    let here = subst (λ (l : List LoadSite). IsSiteAt l place site) c.deref.ensures.value found in
+    let at = subst (λ (n : ℕ). IsSiteAt sites (n / each) site) (sym so_far.number) here in
+    record {
+      hosts = hosts_more each sites site old c.add_addresses.new.addresses.hosts.items so_far.hosts at adds;
+      number = omega (arith, so_far.number, ap length adds.added ∙ length-append old _);
+    }
