@@ -1,8 +1,7 @@
 //! Fetches URLs, and writes a line for each.
 
 ghost use Rattle.std.specs.Prelude.{◌≡◌, None, option_map, string_bytes};
-ghost use Rattle.crawl.specs.Crawling.{crawl_given};
-ghost use Rattle.cli.specs.Fetching.{IsKindOf, RunsCrawl, RunsGet, crawl_status};
+ghost use Rattle.cli.specs.Fetching.{IsKindOf, RunsGet, crawl_status};
 ghost use Rattle.command_line.specs.GetPlans.{plan_file};
 ghost use Rattle.streams.specs.Streams.{CanCount};
 
@@ -15,6 +14,10 @@ use crawl::{Crawl, CrawlFault, Crawled, Network};
 use std::alloc::Global;
 use std::io::{self, Write};
 use streams::{Files, Sink, Source, StreamFault};
+
+/// Its name in a message that it cannot be read, without the system's reason: if it was closed, its
+/// descriptor is another file's by now.
+const STANDARD_INPUT: &str = "standard input";
 
 /// Carries out a plan: fetches the URLs among the words, and then the URLs in its file, which may
 /// be standard input, and writes a line as each transfer ends. Returns the status: 0 if each URL
@@ -45,24 +48,22 @@ pub fn run_get<N: Network, F: Files, R: Source, W: Sink, E: Write>(
         file: kind_of(&system.files, &file),
         resolved,
     };
-    let System {
-        files,
-        network,
-        input,
-        output,
-        errors,
-        ..
-    } = system;
+    let (network, output, errors) = (&system.network, &mut system.output, &mut system.errors);
     let Some(name) = &file else {
         let mut nothing: &[u8] = &[];
-        return run_crawl(crawl, None, network, &mut nothing, output, errors);
+        let crawled = crawl.run(network, &mut nothing, output);
+        return end_crawl(alloc, crawled, STANDARD_INPUT, None, errors);
     };
     let name = name.as_str();
     if name == "-" {
-        return run_crawl(crawl, None, network, input, output, errors);
+        let crawled = crawl.run(network, &mut system.input, output);
+        return end_crawl(alloc, crawled, STANDARD_INPUT, None, errors);
     }
-    match files.open(name) {
-        Ok(mut file) => run_crawl(crawl, Some(name), network, &mut file, output, errors),
+    match system.files.open(name) {
+        Ok(mut file) => {
+            let crawled = crawl.run(network, &mut file, output);
+            end_crawl(alloc, crawled, name, file.last_error(), errors)
+        }
         Err(reason) => {
             write_file_fault(alloc, errors, FileAction::Read, name, Some(reason));
             Status::Failed.code()
@@ -87,25 +88,19 @@ fn kind_of<F: Files>(files: &F, file: &Option<String>) -> UrlFile
     }
 }
 
-// Carries out a crawl whose file, if it has one, is `input`, and returns the status. Reports faults
-// on `errors`. `name` is the file's name, unless it is standard input.
-fn run_crawl<N: Network, R: Source, W: Sink, E: Write>(
-    crawl: Crawl,
-    name: Option<&str>,
-    network: &N,
-    input: &mut R,
-    output: &mut W,
+// Reports the fault of a crawl, or its failed URLs, and returns the status. `name` is the name of
+// its file, and `reason` the system's reason if that could not be read.
+fn end_crawl<E: Write>(
+    alloc: Global,
+    crawled: Crawled,
+    name: &str,
+    reason: Option<io::Error>,
     errors: &mut E,
 ) -> u8
-    requires input { CanCount (R.source input.old) }
-    requires output { CanCount (W.sink output.old) }
-    ensures { RunsCrawl N.Crawler.crawled N.Crawler.finished (crawl_given crawl
-        (R.source input.old).bytes) (W.sink output.old) (W.sink output.new) result }
+    ensures { result ≡ crawl_status crawled }
 {
-    let alloc = crawl.alloc;
-    let crawled = crawl.run(network, input, output);
     if crawled.fault == Some(CrawlFault::Input(StreamFault::Read)) {
-        write_unread(alloc, errors, name, input.last_error());
+        write_file_fault(alloc, errors, FileAction::Read, name, reason);
     } else {
         write_end(errors, crawled);
     }
@@ -132,19 +127,4 @@ fn write_end<E: Write>(errors: &mut E, crawled: Crawled) {
         Some(CrawlFault::BadUrl(line)) => writeln!(errors, "line {line}: bad URL"),
         Some(fault) => writeln!(errors, "run: {fault}"),
     };
-}
-
-// Writes that the file of URLs cannot be read. Standard input that was closed is another file by
-// now, so the system's reason would be wrong.
-fn write_unread<E: Write>(
-    alloc: Global,
-    errors: &mut E,
-    name: Option<&str>,
-    reason: Option<io::Error>,
-) {
-    let (name, reason) = match name {
-        Some(name) => (name, reason),
-        None => ("standard input", None),
-    };
-    write_file_fault(alloc, errors, FileAction::Read, name, reason);
 }
