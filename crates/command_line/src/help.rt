@@ -214,8 +214,9 @@ file for curlpool audit. Numbers are unsigned decimal integers; a number of
 seconds may have a unit: 10s, 5m (minutes) or 1h (hours).
 
 With URLs, by --url or as arguments, job K requests URL K modulo their number.
-The system looks a host name up, unless it is localhost, an address, or given by
---resolve.
+Each thread then has connections of its own, unless --host-limit, --total or
+--trace is given, or --connects is below --connections. The system looks a host
+name up, unless it is localhost, an address, or given by --resolve.
 
 With a URL or an option after --trace, a summary is printed on standard error:
 requests, bytes of bodies, latency, connections (and the time that requests
