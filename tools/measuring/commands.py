@@ -37,6 +37,14 @@ def compiled(source, room, *libraries):
     return program
 
 
+def preloadable(source, room):
+    """A library in C to preload, a file of tools, built there."""
+    need("cc")
+    library = os.path.join(room, os.path.basename(source).removesuffix(".c") + ".so")
+    run(["cc", "-O2", "-shared", "-fPIC", "-o", library, os.path.join(TOP, "tools", source), "-ldl"])
+    return library
+
+
 def show(head, rows):
     print(f"| {' | '.join(head)} |\n|{'---|' * len(head)}")
     for row in rows:

@@ -12,22 +12,23 @@ from typing import NamedTuple
 from program import proved_tries
 from real_servers.nginx import found, free_ports
 
-from .clients import COUNT_CALLS_TO, seconds_of_children
-from .commands import need, run, show, stop
+from .clients import seconds_of_children
+from .commands import need, preloadable, run, show, stop
 
 WORKERS = 4
 CONNECTIONS = (64, 256)
 ROUNDS = 11
 # of a run of ours, and the seconds of one of wrk's
 FEWER, MORE, SECONDS = 10_000, 210_000, 3
-FEWER_TRACED, MORE_TRACED = 1_000, 5_000
+FEWER_COUNTED, MORE_COUNTED = 10_000, 50_000
 TOTALS = (0, 3, 1)
 # ten seconds and more of few connections
 SCARCE, SCARCE_REQUESTS = (3, 1), 200_000
 TOLD = re.compile(r"good (\d+) failed 0 ")
 LATE = re.compile(r" late (\d+)$", re.MULTILINE)
 OF_WRK = re.compile(r"Requests/sec:\s+([\d.]+)")
-CALL = re.compile(r"^\s*[\d.]+\s+[\d.]+\s+\d+\s+(\d+)\s+(?:\d+\s+)?(\w+)$", re.MULTILINE)
+# reads of the clock ask nothing of the system
+CLOCK = "clock_gettime"
 CONFIGURATION = """
 daemon off; pid pid; error_log stderr; worker_processes auto;
 events { worker_connections 4096; }
@@ -109,22 +110,25 @@ def show_beside_wrk(program, port):
     print(f"Medians of {ROUNDS} rounds in turn, {WORKERS} threads each; a ratio is within a round.\n")
 
 
-def calls_of(words):
+def calls_of(words, counter):
+    """How often the program called each function that the preloaded library counts."""
     with tempfile.NamedTemporaryFile("r", encoding="utf8") as file:
-        run([*COUNT_CALLS_TO, file.name, *words])
-        return {name: int(count) for count, name in CALL.findall(file.read()) if name != "total"}
+        run(words, env={**os.environ, "LD_PRELOAD": counter, "CALLS": file.name})
+        return {name: int(count) for name, count in map(str.split, file)}
 
 
 def show_calls_of_many(program, port):
-    need("strace")
     rows = []
-    for total in TOTALS:
-        fewer, more = (calls_of(words_of(program, CONNECTIONS[0], total, count, port))
-                       for count in (FEWER_TRACED, MORE_TRACED))
-        calls = {name: (count - fewer.get(name, 0)) / (MORE_TRACED - FEWER_TRACED) for name, count in more.items()}
-        told = ", ".join(f"`{name}` {count:.2f}" for name, count in sorted(calls.items()) if count >= 0.005)
-        rows.append((total or "none", f"{sum(calls.values()):.2f}", told))
-    show(("most connections", "system calls a request", "of these"), rows)
+    with tempfile.TemporaryDirectory() as room:
+        counter = preloadable("measuring/count_calls.c", room)
+        for total in TOTALS:
+            fewer, more = (calls_of(words_of(program, CONNECTIONS[0], total, count, port), counter)
+                           for count in (FEWER_COUNTED, MORE_COUNTED))
+            calls = {name: (count - fewer[name]) / (MORE_COUNTED - FEWER_COUNTED) for name, count in more.items()}
+            clock = calls.pop(CLOCK)
+            told = ", ".join(f"`{name}` {count:.2f}" for name, count in sorted(calls.items()) if count >= 0.005)
+            rows.append((total or "none", f"{sum(calls.values()):.2f}", told, f"{clock:.2f}"))
+    show(("most connections", "system calls a request", "of these", "clock reads"), rows)
     print(f"{WORKERS} threads with {CONNECTIONS[0]} places together.\n")
 
 

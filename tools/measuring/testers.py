@@ -14,8 +14,9 @@ from .clients import curlpool, seconds_of_children
 from .commands import need, run, show
 from .many import WORKERS, nginx_by
 
-CONNECTIONS = (4, 64, 256)
-ROUNDS, SECONDS = 11, 2
+CONNECTIONS = (4, 64, 256, 1_024)
+# after a warm-up second, since wrk counts no request from before its connection is open
+ROUNDS, SECONDS, WARMUP = 11, 2, 1
 # how often wrk is asked for a report with both percentiles
 RUNS_OF_WRK = 3
 RATE, RATED_SECONDS = 1_000, 10
@@ -34,7 +35,8 @@ def words_of_load(port, *more):
 
 def our_latencies(connections, port):
     """Microseconds that 50 and 99 percent of the requests do not pass."""
-    told = json.loads(run(words_of_load(port, "--connections", str(connections), "--seconds", str(SECONDS))))
+    words = words_of_load(port, "--connections", str(connections), "--seconds", str(SECONDS), "--warmup", str(WARMUP))
+    told = json.loads(run(words))
     return told["latency_us"]["p50"], told["latency_us"]["p99"]
 
 
