@@ -13,7 +13,7 @@
 #include <time.h>
 #include <unistd.h>
 
-/* a count on a cache line of its own */
+/* a count on a separate cache line */
 struct count {
     _Alignas(64) atomic_ulong calls;
     const char *name;
@@ -48,7 +48,7 @@ COUNTED(RECV, ssize_t, recv, (int socket, void *bytes, size_t length, int flags)
 COUNTED(SEND, ssize_t, send, (int socket, const void *bytes, size_t length, int flags), (socket, bytes, length, flags))
 COUNTED(WRITE, ssize_t, write, (int file, const void *bytes, size_t length), (file, bytes, length))
 
-static void tell(void) {
+static void write_counts(void) {
     const char *path = getenv("CALLS");
     unsigned long calls[FUNCTIONS];
     for (int place = 0; place < FUNCTIONS; place++)
@@ -61,9 +61,9 @@ static void tell(void) {
     fclose(file);
 }
 
-/* the end of a program of Rattle */
+/* Rattle's programs end by this call, which runs no destructor */
 void _exit(int status) {
-    tell();
+    write_counts();
     syscall(SYS_exit_group, status);
     __builtin_unreachable();
 }

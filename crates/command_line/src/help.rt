@@ -214,7 +214,7 @@ file for curlpool audit. Numbers are unsigned decimal integers; a number of
 seconds may have a unit: 10s, 5m (minutes) or 1h (hours).
 
 With URLs, by --url or as arguments, job K requests URL K modulo their number.
-Each thread then has connections of its own, unless --host-limit, --total or
+Each thread then keeps its own connections, unless --host-limit, --total or
 --trace is given, or --connects is below --connections. The system looks a host
 name up, unless it is localhost, an address, or given by --resolve.
 

@@ -83,7 +83,7 @@ fn urls_at(alloc: Global, ports: &[u16]) -> Result<Vec<Job>, AllocError> {
     Ok(urls)
 }
 
-// The addresses of the hosts of sites at these ports, for so many threads. Each site has so many.
+// Returns the addresses of `each` hosts for each of these ports, for `workers` threads.
 fn addresses_at(
     alloc: Global,
     ports: &[u16],
@@ -101,7 +101,7 @@ fn addresses_at(
     Ok(all)
 }
 
-// Adds so many hosts at that port.
+// Adds `each` hosts at that port.
 fn add_hosts(
     alloc: Global,
     addresses: &mut Addresses,
