@@ -5,7 +5,7 @@ use Rattle.std.proofs.lemmas.List.{drop_all}
 use Rattle.shared_cache.specs.declared.gathered.HostCount.{HostCount}
 use Rattle.load_report.specs.Accounts.{site_totals, sums_by_site, totals}
 
--- what is taken of a list is what there is of it
+-- a cut after the list's end takes the same elements as one at its end
 cut_at : (each cut : ℕ) (left : List HostCount) → cut ≡ min (length left) each → (take cut left ≡ take each left) × (drop cut left ≡ drop each left)
 cut_at each cut left is = by_cases (cases_lt each (length left))
   where

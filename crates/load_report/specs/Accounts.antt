@@ -51,7 +51,7 @@ unfoldable pub sums_by_site : ℕ → ℕ → List HostCount → List HostCount
 sums_by_site zero each hosts = []
 sums_by_site (suc sites) each hosts = totals (take each hosts) ∷ sums_by_site sites each (drop each hosts)
 
--- what happened at each site: at its host, or at its hosts in total
+-- the counts of each site: those of its host, or the sums of its hosts' counts
 abbrev pub site_totals : ℕ → ℕ → List HostCount → List HostCount
 site_totals sites each hosts = if each == 1 then hosts else sums_by_site sites each hosts
 

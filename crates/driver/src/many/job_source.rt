@@ -5,7 +5,7 @@ use exchange::Prepared;
 /// Where the jobs of a run come from, for all its workers: each job is prepared by its number, for
 /// the worker that drew it. Workers are numbered from 0, in the order of their tools.
 ///
-/// The ghost member tells contracts the job of each number, for each worker.
+/// In contracts, the ghost member is the job of each number, for each worker.
 pub trait JobSource {
     ghost use Rattle.std.specs.Prelude.{◌≡◌, ℕ, ◌<◌, length, IfOk, IfErr, IfSome};
     ghost use Rattle.exchange.specs.declared.job.Job.{Job};

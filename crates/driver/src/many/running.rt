@@ -247,7 +247,7 @@ fn worker_number(place: usize, workers: usize) -> usize {
     workers.saturating_sub(place).saturating_sub(1)
 }
 
-// Lets the worker of that number work, at a desk of its own.
+// Runs the loop of the worker of that number, at a new desk.
 fn work_in_loop<
     W: Wire,
     N: Names,
