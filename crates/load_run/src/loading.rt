@@ -60,13 +60,13 @@ pub struct LoadedMany {
     pub waited: u64,
     /// The end of each host's log, after the entries that the watcher took. Oldest entry first.
     pub logs: Vec<Vec<Entry>>,
-    /// What happened at the hosts of each site, added up.
+    /// Counts of each site: the sums of its hosts' counts.
     pub hosts: Vec<HostCount>,
     /// The account of the cache. Dropping it closes the connections that are still open.
     pub gathered: Gathered<PolledWire>,
 }
 
-/// What a run was to do, as far as its account depends on it.
+/// The parts of a load's plan that its account depends on.
 #[derive(Clone, Copy)]
 struct RunPlan {
     times: LoadTimes,
@@ -184,7 +184,7 @@ fn job_count(jobs: Option<u64>) -> u64
     jobs.unwrap_or(MOST_JOBS)
 }
 
-/// What a run needs beside its cache and its timer.
+/// The parts of a run other than its cache and its timer.
 struct LoadParts<'a> {
     source: UrlJobs<'a>,
     /// The tools of each thread.
