@@ -27,7 +27,7 @@ fn a_value_has_the_bucket_that_hdr_histogram_gives_it(rt: HostRuntime) {
     }
 }
 
-/// Values, and what a histogram of them tells: the values at 0, 500, 900, 990, 999 and 1000
+/// Values, and the results of their histogram: the values at 0, 500, 900, 990, 999 and 1000
 /// thousandths, the mean, and the greatest value.
 struct Row {
     values: &'static [u64],

@@ -13,9 +13,8 @@ const MOST_BYTES: usize = 1_000_000;
 /// The beginnings of the classes of marks.
 static CLASSES: [&str; 5] = ["interval\"", "failed\"", "latency ", "bucket\"", "legend\""];
 
-/// How many intervals there are, of which every `empty_each`th is without requests and every
-/// `failed_each`th has failures, and how many buckets; and how many marks of each class their
-/// picture has.
+/// Numbers of intervals and buckets, and of the marks of each class in their picture. Every
+/// `empty_each`th interval has no requests, and every `failed_each`th has failures.
 struct Row {
     name: &'static str,
     intervals: u64,

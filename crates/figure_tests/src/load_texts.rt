@@ -24,7 +24,7 @@ struct Row {
     text: &'static str,
 }
 
-/// What is reported of no job.
+/// The report of no job.
 const NO_JOB: JobReport = JobReport {
     requests: 0,
     good: 0,

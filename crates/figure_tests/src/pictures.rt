@@ -63,7 +63,7 @@ fn what_is_begun_is_ended(rt: HostRuntime) {
     assert!(rt; drawn.as_str().ends_with(END), "{drawn}");
 }
 
-/// What happened, in short: numbers of connections and of transfers.
+/// An event in short: the numbers of its connection and its transfer.
 #[derive(Clone, Copy)]
 enum Happened {
     Opened(u32, u64),
@@ -163,20 +163,15 @@ const FACTS: Facts = Facts {
     surplus: false,
 };
 
-// What a transfer wants; no picture shows it.
-fn want_of(transfer: u64) -> Want {
-    Want::of(transfer)
-}
-
 fn event_of(happened: Happened) -> Event {
     match happened {
         Happened::Opened(connection, transfer) => Event::Opened {
             connection,
-            want: want_of(transfer),
+            want: Want::of(transfer),
         },
         Happened::Leased(connection, transfer) => Event::Leased {
             connection,
-            want: want_of(transfer),
+            want: Want::of(transfer),
         },
         Happened::Returned(connection) => Event::Returned {
             connection,
@@ -184,7 +179,7 @@ fn event_of(happened: Happened) -> Event {
         },
         Happened::Closed(connection, cause) => Event::Closed { connection, cause },
         Happened::Waited(transfer) => Event::Waited {
-            want: want_of(transfer),
+            want: Want::of(transfer),
         },
         Happened::Left(transfer) => Event::Left { transfer },
         Happened::Limit(limit) => Event::Limit { limit },
@@ -216,7 +211,7 @@ fn drawn(alloc: Global, log: &[Entry]) -> Result<String, AllocError> {
     picture_of(alloc, Some(limits), &[host])
 }
 
-/// How many elements have a class that begins so.
+/// Returns the number of elements whose class begins with `class`.
 pub fn count<R: AllocGlobal + Abort>(rt: &R, picture: &str, class: &str) -> usize {
     let mut start = String::new(rt.alloc());
     start.push_str("class=\"").expect(rt, "memory");
@@ -251,7 +246,7 @@ fn each_connection_and_waiter_has_its_marks(rt: HostRuntime) {
 fn one_after_another(alloc: Global, connections: u32) -> Result<Vec<Entry>, AllocError> {
     let mut log = Vec::new(alloc);
     for connection in 1..=connections {
-        let want = want_of(1);
+        let want = Want::of(1);
         log.push(Entry {
             moment: 7,
             event: Event::Opened { connection, want },
@@ -265,7 +260,7 @@ fn one_after_another(alloc: Global, connections: u32) -> Result<Vec<Entry>, Allo
     Ok(log)
 }
 
-/// How many connections are opened and closed, and how many are shown.
+/// Numbers of connections that are opened and closed, and of those that the picture shows.
 static SHOWN: [(u32, usize); 3] = [(5_000, 5_000), (5_001, 5_000), (6_000, 5_000)];
 
 // The first of the connections was open at the first event that is shown, the second one is older.
@@ -300,7 +295,7 @@ fn a_script_without_hosts_or_limits_has_a_picture(rt: HostRuntime) {
     check_eq(&rt, count(&rt, picture.as_str(), "host\""), 0);
 }
 
-// Under `rt try --test --fail-alloc N`: an allocation failure is told, and nothing else happens.
+// Under `rt try --test --fail-alloc N`: an allocation failure is reported, and nothing else happens.
 #[test]
 fn an_allocation_failure_is_told(rt: HostRuntime) {
     let Ok(log) = log_of(rt.alloc(), ROWS[3].log) else {
